@@ -17,15 +17,15 @@ from dask.distributed import Client, LocalCluster
 
 import segywb
 
-COLUMNS = ("file", "traces", "samples", "format", "faults", "refused")
+COLUMNS = ("file", "traces", "samples", "format", "problems", "refused")
 
 
 def inventory(path):
     """The row of a file."""
     try:
         with segywb.open(path, opaque_samples=True, on_disk=True) as volume:
-            info = volume.info
-            return str(path), info.traces, info.samples, info.format, sum(volume.fault_counts().values()), ""
+            info, found = volume.info, " ".join(one.code for one in volume.problems())
+            return str(path), info.traces, info.samples, info.format, found, ""
     except (segywb.Error, OSError) as error:
         return str(path), "", "", "", "", str(error)
 

@@ -22,5 +22,8 @@ if [ -n "$lacking" ]; then
     [ -z "${CI:-}" ] || exit 1
     exit 0
 fi
+# Its folders stand apart: other runs of pytest take those of the same user away, and shut them to others in the middle of a test.
+room=$(mktemp -d) || exit 1
+trap 'rm -rf "$room"' EXIT
 # Without -X dev, under which a process is started so slowly that the tests would take twice as long.
-exec $python -m pytest -q -p no:cacheprovider -W error::ResourceWarning -W error::pytest.PytestUnraisableExceptionWarning "$here/../python/tests_library" "$@"
+$python -m pytest -q -p no:cacheprovider --basetemp="$room/tests" -W error::ResourceWarning -W error::pytest.PytestUnraisableExceptionWarning "$here/../python/tests_library" "$@"

@@ -83,6 +83,18 @@ runs 'a page of more than five runs' 0 '' segywb-report --no-pictures cube.sgy p
 has 'a script with a list of problems' page.html '<code>script</code>: 10 lines with an answer, 0 refused.'
 has 'names the first five' page.html '<td>5</td><td>trace 2: scalar -100 usual -10; trace 4: scalar -100 usual -10; trace 6: scalar -100 usual -10; trace 8: scalar -100 usual -10; trace 10: scalar -100 usual -10</td><td><code>set all scalar -10 where scalar != -10</code></td></tr>'
 has 'another delay' page.html '<td>1</td><td>trace 2: delay 8 usual 0</td><td><code>set all delay 0 where delay != 0</code></td></tr>'
+has 'that it is by a rule' page.html '<p class="quiet">A line follows a rule, as that the number of most traces is the right one: look at the traces before you run it.</p>'
+printf 'set 1 delay 8\nset 2 delay 16\nset 3 delay 24\nset 4 delay 32\nset 5 delay 40\nset 6 delay 48\nset 7 delay 56\n' > script
+runs 'a page of many delays' 0 '' segywb-report --no-pictures cube.sgy page.html script
+has 'none of which is that of most traces' page.html 'trace 5: delay 40 usual 0; ..</td><td></td></tr>'
+lacks 'and no rule' page.html 'A line follows a rule'
+runs 'a page of traces out of order' 0 '' segywb-report --no-pictures order.sgy page.html
+has 'no line that would lose their numbers' page.html '<td>5</td><td>traces 3 to 6: shift 1; trace 7: shift -4</td><td></td></tr>'
+runs 'a page of numbers that count on' 0 '' segywb-report --no-pictures missing.sgy page.html
+has 'a line for them' page.html '<td>5</td><td>traces 7 to 11: shift 1</td><td><code>renumber all sequence_file 1 1</code></td></tr>'
+printf 'renumber all sequence_file 0 0\n' > script
+runs 'a page of numbers that are 0' 0 '' segywb-report --no-pictures cube.sgy page.html script
+has 'a line for them too' page.html '<code>renumber all sequence_file 1 1</code></td></tr>'
 runs 'a page of a file without traces' 0 '' segywb-report --no-pictures none.sgy page.html
 has 'says so' page.html '<tr><th scope="row">fold (traces of a cell)</th><td>none</td></tr>'
 

@@ -77,12 +77,12 @@ hard_names() {
         '-n' 'a;b&c|d' '#note' '{}' $'\303\251' $'a tab\tin it' $'a line\nfeed' $'two\n\nlines\n' 'line 1/a' 'line 2/a' $'folder\n1/a' 'a  b/ c/d'; do
         put "$name.sgy" wrong_line.sgy
         printf '0\t%s\n' "$(shown "master/$name.sgy")" >> repaired
-        printf '%s\t12\t5\t4000\t3\t101..103\t201..204\t4\n' "$(shown "master/$name.sgy")" >> listed
+        printf '%s\t12\t5\t4000\t3\t101..103\t201..204\tF6\n' "$(shown "master/$name.sgy")" >> listed
     done
     for name in 'floats 1' $'floats\n2'; do
         put "$name.sgy" float_line.sgy
         printf '0\t%s\n' "$(shown "master/$name.sgy")" >> repaired
-        printf '%s\t12\t5\t4000\t1\t101..103\t201..204\t4\n' "$(shown "master/$name.sgy")" >> listed
+        printf '%s\t12\t5\t4000\t1\t101..103\t201..204\tF6\n' "$(shown "master/$name.sgy")" >> listed
     done
     for name in torn $'torn "line"\nfeed' "line 2/it's torn"; do
         put "$name.sgy" wrong_line.sgy 6000
@@ -92,7 +92,7 @@ hard_names() {
     for name in 'of three traces' $'of three\ntraces'; do
         put "$name.sgy" survey.sgy
         printf '1\t%s\trefused E01 no trace 5 of 3\n' "$(shown "master/$name.sgy")" >> repaired
-        printf '%s\t3\t2\t4000\t3\t10..10\t21..23\t0\n' "$(shown "master/$name.sgy")" >> listed
+        printf '%s\t3\t2\t4000\t3\t10..10\t21..23\tnone\n' "$(shown "master/$name.sgy")" >> listed
     done
     sort -o repaired repaired
     sort -o listed listed
@@ -157,7 +157,7 @@ for recipe in $(ls "$work/inventory" | grep -v '^1$'); do
     ready inventory
     many
     (ulimit -s 512; paste "$work/inventory/$recipe")
-    if [ "$(grep -c $'\t4$' inventory.tsv)" = 1010 ]; then tell "many files, inventory $recipe" ok; else tell "many files, inventory $recipe" "$(head -n 3 told | cut -c 1-200)"; fi
+    if [ "$(grep -c $'\tF6$' inventory.tsv)" = 1010 ]; then tell "many files, inventory $recipe" ok; else tell "many files, inventory $recipe" "$(head -n 3 told | cut -c 1-200)"; fi
 done
 [ "$(ls "$work/repair" | wc -l)" -ge 4 ] && [ "$(ls "$work/inventory" | wc -l)" -ge 4 ] && tell 'there are recipes' ok || tell 'there are recipes' 'fewer than four'
 
@@ -183,7 +183,7 @@ put $'\377.sgy' cube.sgy
 bash repair master fixed $'master/\377.sgy' > told
 same 'repair of a name that is no UTF-8' told <(printf '2\tmaster/\377.sgy\tsegywb: cannot read the command line\n')
 
-# ---- the faults of each file of a folder
+# ---- the problems of each file of a folder
 ready headers
 hard_names
 cd master || exit 1
@@ -191,12 +191,12 @@ grep -l '^for file in' "$work"/wrong/* | while read -r recipe; do bash "$recipe"
 for file in *.sgy; do
     case $file in
         *torn*) printf '%q load refused L14 truncated trace 10\n' "$file" ;;
-        *'of three'*) printf '%q faults 0\n' "$file" ;;
-        *) printf '%q faults 4\n' "$file" ;;
+        *'of three'*) printf '%q none\n' "$file" ;;
+        *) printf '%q F6\n' "$file" ;;
     esac
 done | sort > ../wanted
 cd .. || exit 1
-same 'the faults of each file' told wanted
+same 'the problems of each file' told wanted
 
 # ---- headers of any name; a file or a field that is refused ends it, and says so
 for name in plain 'two  blanks' $'a line\nfeed' $'floats\n2' "\"both' of them"; do

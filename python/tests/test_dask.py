@@ -23,7 +23,7 @@ def rows(folder, *words):
     done = subprocess.run([sys.executable, str(EXAMPLE), str(folder), *words], env=clean, capture_output=True, timeout=300, check=False)
     assert done.returncode == 0, done.stderr.decode()
     told = list(csv.reader(io.StringIO(done.stdout.decode("utf-8", "surrogateescape"), newline="")))
-    assert told[0] == ["file", "traces", "samples", "format", "faults", "refused"]
+    assert told[0] == ["file", "traces", "samples", "format", "problems", "refused"]
     return told[1:]
 
 
@@ -44,7 +44,7 @@ def test_inventory(tmp_path):
     for name in names:
         with segywb.open(survey / name, opaque_samples=True) as volume:
             info = volume.info
-            wanted = [info.traces, info.samples, info.format, len(volume.faults())]
+            wanted = [info.traces, info.samples, info.format, " ".join(one.code for one in volume.problems())]
         assert told[str(survey / name)] == [*map(str, wanted), ""], name
     assert told[str(survey / "refused.sgy")][-1].startswith("L03 short 1")
     assert "is not UTF-8" in told[str(survey / odd)][-1]

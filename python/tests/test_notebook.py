@@ -32,7 +32,7 @@ def test_notebook(tmp_path, monkeypatch, capsys):
             values.append(run_cell("".join(cell["source"]), names))
             shown.append(values[-1]._repr_html_() if hasattr(values[-1], "_repr_html_") else "")
     assert "<svg" in shown[0] and "F6: 4" in shown[0]
-    assert values[1][0] == {101: 8, 103: 4} and [p for p, _ in values[1][1]] == [5, 6, 7, 8]
+    assert values[1][0] == {101: 8, 103: 4} and [runs for runs, _ in values[1][1]] == [[(5, 8, {"before": 4})]]
     assert list(values[2].columns) == ["inline", "crossline", "offset", "x", "y"]
     assert values[4] == ([], [f"set {p} inline 102" for p in (5, 6, 7, 8)])
     told = "E01 no trace 99 of 12: set 99 inline 102\n{101: 8, 103: 4}\n{101: 4, 102: 4, 103: 4}\n"

@@ -166,8 +166,8 @@ def test_documents(document, tmp_path, monkeypatch):
             examples += 1
     assert examples > 0
     if document == "docs/PYTHON.md":
-        assert names["faults_of"](Path("wrong_line.sgy")) == ("wrong_line.sgy", 12, 4)
-        assert names["faults_of"](Path("positions.csv")) == ("positions.csv", None, "L03")
+        assert names["problems_of"](Path("wrong_line.sgy")) == ("wrong_line.sgy", 12, "F6")
+        assert names["problems_of"](Path("positions.csv")) == ("positions.csv", None, "L03")
         with segywb.open("positioned.sgy") as volume:
             assert volume.headers("x")["x"].tolist() == [45000010] * 4 + [45000020] * 4 + volume.headers("x")["x"].tolist()[8:]
 

@@ -163,7 +163,7 @@ def test_problems_without_runs_of_traces(opened, tmp_path):
         volume.delete(9)
     volume.renumber(1, len(volume), "sequence_file", 1, 1)
     (missing,) = volume.problems()
-    assert missing == ("S7", None, 1, [(3, 3, {"step": 1})], {"missing": 1}, "problem S7 missing 1 runs 1\nrun 3 3 step 1")
+    assert missing == ("S7", None, 1, [(3, 3, {"step": 1})], {"missing": 1}, "problem S7 missing 1 runs 1\nrun 3 3 step 1", 16)
     assert missing.how_many == 1 and missing.mend is None
     volume.set_many("inline", range(1, 17), [0] * 16)
     volume.set_many("crossline", range(1, 17), [0] * 16)
@@ -178,7 +178,7 @@ def test_a_fold_that_differs(opened, tmp_path):
     volume.set(13, "sequence_file", 13)
     (fold,) = volume.problems()
     told = {"cells": 12, "usual": 1, "less": 0, "more": 1, "least": 1, "greatest": 2}
-    assert fold == ("S9", None, 0, [], told, "problem S9 cells 12 usual 1 less 0 more 1 least 1 greatest 2") and fold.how_many == 1
+    assert fold == ("S9", None, 0, [], told, "problem S9 cells 12 usual 1 less 0 more 1 least 1 greatest 2", 13) and fold.how_many == 1
     assert fold.mend is None
 
 
@@ -188,6 +188,37 @@ def test_the_number_of_traces(opened, tmp_path):
     assert (count.code, count.traces, count.facts, count.how_many) == ("F7", None, {"count": 9, "traces": 1}, 1)
     volume.run(count.mend)
     assert volume.problems() == []
+
+
+NUMBERED_ANEW = "renumber all sequence_file 1 1"
+
+
+@pytest.mark.parametrize("edits, mend", [
+    ("move 7 3", None), ("move 3 9", None), ("move 2 4 8", None), ("renumber all sequence_file 12 -1", None),
+    ("sort all crossline", None), ("delete 5", NUMBERED_ANEW), ("blank 7", NUMBERED_ANEW), ("copy 4 9", NUMBERED_ANEW),
+    ("renumber all sequence_file 0 0", NUMBERED_ANEW), ("renumber all sequence_file 7001 1", NUMBERED_ANEW),
+    ("compute all sequence_file crossline - 200", NUMBERED_ANEW), ("set 4 sequence_file 99999", NUMBERED_ANEW),
+    ("set 9 sequence_file 2", NUMBERED_ANEW), ("set 9 sequence_file 0\nset 2 sequence_file -7", NUMBERED_ANEW),
+])
+def test_numbers_in_the_file_that_are_lost_by_none(opened, edits, mend):
+    """Where the traces may stand in another order than they were numbered in, no line is named."""
+    volume = opened("cube")
+    volume.run(edits)
+    order = volume.problems()[0]
+    assert order.code == "F1" and order.mend == mend
+    if mend:
+        volume.run(mend)
+        assert "F1" not in [one.code for one in volume.problems()]
+
+
+def test_the_usual_number_is_that_of_most_traces(opened):
+    """A number that less than half of the traces have is written into none of the others."""
+    volume = opened("cube")
+    for most, mend in ((6, "set all delay 0 where delay != 0"), (7, None), (12, None)):
+        volume.set_each("delay", 0)
+        volume.renumber(1, most, "delay", 8, 8)
+        (delays,) = volume.problems()
+        assert (delays.code, delays.of, delays.mend) == ("S4", 12, mend)
 
 
 @pytest.mark.parametrize("answer", [

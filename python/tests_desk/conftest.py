@@ -1,8 +1,10 @@
 """What the tests of the desk share: a desk on a copy of an example file, a browser, and a page in it."""
 
 import os
+import random
 import shutil
 import signal
+import socket
 import subprocess
 import sys
 import time
@@ -108,13 +110,30 @@ def browser():
     made.quit()
 
 
+SAME_KEY = "import secrets\nsecrets.token_urlsafe = lambda size: 'k' * size"
+
+
+@pytest.fixture(scope="session")
+def port():
+    """A port for the first page of each test: under one address the browser keeps what it made of plotly.js, which is half of the time of a page. The
+    system gives none of these to others meanwhile."""
+
+    def free(number):
+        with socket.socket() as found:
+            return found.connect_ex(("127.0.0.1", number)) != 0
+
+    return next(number for number in random.sample(range(20000, 32000), 100) if free(number))
+
+
 @pytest.fixture
-def opened(started, browser):
+def opened(started, browser, port):
     """A page on a desk. At the end of a test the browser must not have complained."""
     pages = []
 
-    def page(name, *words, **more):
-        desk = started(name, *words, **more)
+    def page(name, *words, before="", **more):
+        place = [] if pages or "--port" in words else ["--port", str(port)]
+        desk = started(name, *place, *words, before=f"{SAME_KEY}\n{before}", **more)
+        browser.execute_cdp_cmd("Storage.clearDataForOrigin", {"origin": f"http://127.0.0.1:{port}", "storageTypes": "local_storage"})
         browser.execute_cdp_cmd("Emulation.setEmulatedMedia", {"features": [{"name": "prefers-color-scheme", "value": "light"}]})
         browser.get_log("browser")
         pages.append(Page(browser, desk))

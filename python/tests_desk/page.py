@@ -85,6 +85,12 @@ class Page:
             self.shown(before + 1)
         return answer
 
+    def step_of_line(self):
+        """Runs what stands in the command line."""
+        before = self.version()
+        self.find("line").send_keys(Keys.ENTER)
+        self.shown(before + 1)
+
     def answer(self, line=None):
         """The last answer."""
 

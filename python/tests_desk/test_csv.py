@@ -105,19 +105,23 @@ def test_what_was_looked_at_is_written_alone(opened, tmp_path):
     assert not page.find("csv-go").is_enabled() and page.version() == 1
 
 
-@pytest.mark.parametrize("text, told", [
+TOLD = [
     (b"inline,crossline,x\n101,201,\xe4\n", "This is not UTF-8."), ("", "there is no first line"), ('inline,crossline,x\n101,201,"5\n', "this is no CSV"),
     ("inline,crossline,x\n101,201,5.5\n", "line 2, column 'x': no whole number: '5.5'"), ("inline,crossline,x\n101,201,<img src=x onerror=window.taken=1>\n", "no whole number: '<img src=x"),
-])
-def test_a_bad_csv_is_told(opened, tmp_path, text, told):
+]
+
+
+def test_a_bad_csv_is_told(opened, tmp_path):
     page = opened("wrong_line")
-    chosen(page, tmp_path, text)
-    page.wait(lambda: page.all("#csv-columns tbody tr") or page.text("csv-said"))
-    if not page.text("csv-said"):
-        page.click("csv-look")
-    page.wait(lambda: told in page.text("csv-said"))
-    assert not page.find("csv-go").is_enabled() and page.version() == 1
-    assert page.js("return window.taken === undefined && document.querySelectorAll('img').length") == 0
+    for text, told in TOLD:
+        page.open()
+        chosen(page, tmp_path, text)
+        page.wait(lambda: page.all("#csv-columns tbody tr") or page.text("csv-said"))
+        if not page.text("csv-said"):
+            page.click("csv-look")
+        page.wait(lambda: told in page.text("csv-said"))
+        assert not page.find("csv-go").is_enabled() and page.version() == 1, told
+        assert page.js("return window.taken === undefined && document.querySelectorAll('img').length") == 0, told
 
 
 def test_columns_are_texts(opened, tmp_path):

@@ -186,6 +186,8 @@ def test_the_second_field_is_brushed(opened):
     page.wait(lambda: page.find("offers").is_displayed())
     assert page.text("offer-count") == "3 traces" and page.find("offer-field").get_attribute("value") == "crossline"
     assert page.one("#offers pre").text.split("\n") == ["renumber 3 3 crossline 203 0", "renumber 7 7 crossline 203 0", "renumber 11 11 crossline 203 0"]
+    page.click("offer-found")
+    page.wait(lambda: page.one("#offers pre").text == "renumber 1 12 crossline 203 0 where crossline = 203")
     page.run("set 1 crossline 203")
     page.wait(lambda: page.text("offer-count") == "4 traces")
 

@@ -136,6 +136,13 @@ def test_what_the_browser_is_told(started):
         assert not re.search(r"innerHTML|outerHTML|insertAdjacentHTML|document\.write|eval\(|(?<!xmlns=\")https?://", path.read_text()), path
 
 
+def test_what_the_browser_may_keep(started):
+    """The library of plots alone: it is no text of the file, and reading it anew is most of what a page waits for."""
+    desk = ready(started("cube"))
+    kept = {path: asked(desk, f"/{desk.token}/{path}")[2].getheader("Cache-Control") for path in ("", "main.js", "plotly.js", "ask/state", "edits.txt")}
+    assert kept.pop("plotly.js") == "private, max-age=3600" and set(kept.values()) == {"no-store"}
+
+
 def test_this_machine_alone(started):
     desk = ready(started("cube"))
     listening = [row.split()[1] for row in Path("/proc/net/tcp").read_text().splitlines()[1:] if row.split()[3] == "0A"]

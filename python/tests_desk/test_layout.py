@@ -8,15 +8,11 @@ from selenium.webdriver.common.keys import Keys
 
 
 @pytest.fixture
-def laptop(opened):
+def laptop(opened, browser):
     """A page in a window of 1,280 by 720."""
-    page = opened("wrong_line")
-    page.browser.execute_cdp_cmd("Emulation.setDeviceMetricsOverride", {"width": 1280, "height": 720, "deviceScaleFactor": 1, "mobile": False})
-    page.js("localStorage.clear()")
-    page.open()
-    yield page
-    page.js("localStorage.clear()")
-    page.browser.execute_cdp_cmd("Emulation.clearDeviceMetricsOverride", {})
+    browser.execute_cdp_cmd("Emulation.setDeviceMetricsOverride", {"width": 1280, "height": 720, "deviceScaleFactor": 1, "mobile": False})
+    yield opened("wrong_line")
+    browser.execute_cdp_cmd("Emulation.clearDeviceMetricsOverride", {})
 
 
 def places(page):
@@ -43,6 +39,19 @@ def test_a_laptop_is_enough(laptop):
         left = next(one for one, place in places(laptop).items() if place == "left")
         assert room(laptop, left)[2] <= room(laptop, name)[0] and sorted(places(laptop).values()) == ["below", "below", "left", "right"]
         assert room(laptop, "commands")[1] >= max(room(laptop, name)[3], room(laptop, left)[3])
+
+
+def test_a_large_screen_is_used(laptop):
+    """Of 3,840 by 2,160 pixels: the plots are as high as the command line leaves room."""
+    laptop.browser.execute_cdp_cmd("Emulation.setDeviceMetricsOverride", {"width": 3840, "height": 2160, "deviceScaleFactor": 1, "mobile": False})
+    laptop.open()
+    assert no_wider(laptop) and room(laptop, "line")[3] <= 2160
+    wide, tall = laptop.js("const {width, height} = document.getElementById('plot-now')._fullLayout; return [width, height]")
+    assert wide > 2200 and tall == 1600 and room(laptop, "plot-now")[3] <= 2160
+    laptop.press("#section .to-right")
+    laptop.wait(lambda: laptop.data("sectionVersion"))
+    canvas = laptop.find("section-canvas").rect
+    assert canvas["width"] > 1200 and canvas["height"] == 1600 and no_wider(laptop)
 
 
 def test_two_panels_side_by_side(laptop):
@@ -101,10 +110,14 @@ def test_sizes_are_kept(laptop):
     assert 0.7 < (maps[2] - maps[0]) / (graph[2] - maps[0]) < 0.77  # it stops before a panel vanishes
 
 
-@pytest.mark.parametrize("kept", ["{", "[]", "null", '{"left": "maps", "right": "maps"}', '{"left": "<img>", "right": "side"}', '{"left": "constructor", "right": "side"}',
-                                  '{"left": "side", "right": "maps", "split": "x", "tall": -5, "open": 7}'])
-def test_what_is_kept_may_be_anything(laptop, kept):
-    laptop.js("localStorage.setItem('segywb-desk-layout', arguments[0])", kept)
-    laptop.open()
-    assert sorted(places(laptop).values()) == ["below", "below", "left", "right"] and laptop.js("return document.getElementById('plot-now').clientHeight") >= 160
-    assert laptop.browser.find_elements(By.TAG_NAME, "img") == []
+NO_LAYOUTS = ["{", "[]", "null", '{"left": "maps", "right": "maps"}', '{"left": "<img>", "right": "side"}', '{"left": "constructor", "right": "side"}',
+              '{"left": "side", "right": "maps", "split": "x", "tall": -5, "open": 7}']
+
+
+def test_what_is_kept_may_be_anything(laptop):
+    for kept in NO_LAYOUTS:
+        laptop.js("localStorage.setItem('segywb-desk-layout', arguments[0])", kept)
+        laptop.open()
+        assert sorted(places(laptop).values()) == ["below", "below", "left", "right"], kept
+        assert laptop.js("return document.getElementById('plot-now').clientHeight") >= 160, kept
+        assert laptop.browser.find_elements(By.TAG_NAME, "img") == [], kept

@@ -254,13 +254,88 @@ def test_groups_of_problems(desk):
     found = {one["code"]: one for one in got["problems"]}
     assert [one.code for one in desk.volume.problems()] == list(found)
     count = len(desk.volume)
-    assert found["F1"]["first"] == [{"text": f"traces 1 to {count}: shift 1", "trace": 1}] and found["F1"]["single"]
+    assert found["F1"]["first"] == [{"text": f"traces 1 to {count}: shift 1", "trace": 1, "last": count, "gap": None, "lines": []}] and found["F1"]["single"]
     assert found["F1"]["line"] == "renumber all sequence_file 1 1"
-    assert found["F4"]["first"] == [{"text": "traces 3 to 4: scalar 7", "trace": 3}] and found["F4"]["line"] == "set 3 4 scalar "
+    lines = ["set 3 4 scalar NUMBER", "set all scalar NUMBER where scalar = 7"]
+    assert found["F4"]["first"] == [{"text": "traces 3 to 4: scalar 7", "trace": 3, "last": 4, "gap": None, "lines": lines}] and found["F4"]["line"] == "set 3 4 scalar "
     usual = found["S3"]["first"][0]["text"].split()[-1]
     assert found["S3"]["line"] == f"set all scalar {usual} where scalar != {usual}" and not found["S3"]["single"]
     desk.run("set 3 4 scalar 10")
     assert "F4" not in {one["code"] for one in views.problems(desk, kept)["problems"]}
+
+
+def lines_of_problems(volume):
+    """The lines that the panel names, by code."""
+    return {one.code: problems.shown(one, volume)["line"] for one in volume.problems()}
+
+
+def lines_for(path, edits, **options):
+    """The lines that the panel names behind these edits, by code."""
+    with segywb.open(path, **options) as volume:
+        assert not [one for one in volume.run(edits) if one.refused]
+        return lines_of_problems(volume)
+
+
+def mended(path, edits, code, **options):
+    """Whether the line takes a problem away, or brings one that the next line takes away, and no other problem comes."""
+    with segywb.open(path, **options) as volume:
+        volume.run(edits)
+        before = {one.code for one in volume.problems()}
+        for _ in range(2):
+            line = lines_of_problems(volume).get(code)
+            assert line is None or volume.run(line)[0].accepted, line
+        after = {one.code for one in volume.problems()}
+        return code not in after and after <= before
+
+
+@pytest.mark.parametrize("edits, code, line", [
+    ("set 2 interval 2000\nset 7 9 interval 1000\nset 11 interval 0", "F3", "set all interval 4000 where interval != 4000 and interval != 0"),
+    ("bin interval 2000", "F3", "bin interval 4000"), ("bin interval 0", "F3", "bin interval 4000"),
+    ("bin interval 2000\nset 2 interval 2000", "F3", "bin interval 4000"), ("bin interval 0\nset 2 interval 8", "F3", None),
+    ("bin interval 2000\nset 2 interval 8", "F3", None),
+    ("set 4 coordinate_units 2\nset 9 coordinate_units 3", "F5", "set all coordinate_units 1 where coordinate_units != 1"),
+    ("set 1 coordinate_units 2", "F5", "set all coordinate_units 1 where coordinate_units = 2"),
+    ("set 1 2 coordinate_units 2", "F5", "set all coordinate_units 1 where coordinate_units = 2"),
+    ("set 1 coordinate_units 2\nset 5 coordinate_units 3", "F5", None),
+    ("set 2 samples 4\nset 7 9 samples 6\nset 11 samples 0", "F2", "set all samples 5 where samples != 5 and samples != 0"),
+    ("copy 4 5", "F6", "delete 5"), ("move 5 8 1", "F6", None), ("copy 4 5\nset 5 x 7", "F6", None), ("copy 4 5\npatch 4 0 0 0 0 0 0\npatch 5 0 0 0 0 0 0", "F6", None),
+    ("renumber 5 8 inline 101 0", "F6", None), ("copy 8 9\ncopy 7 9\ncopy 6 9\ncopy 5 9", "F6", "delete 9 12"), ("move 7 3", "F1", None),
+    ("copy 8 9\ncopy 7 9\ncopy 6 9\ncopy 5 9\npatch 10 0 99", "F6", None), ("copy 8 9\ncopy 7 9\ncopy 6 9\ncopy 5 9\nset 11 y 99", "F6", None),
+    ("renumber all delay 8 8", "S4", None),
+    ("set all inline 0\nset all crossline 0\nrenumber all trace_in_record 1 1", "S1", "map shot"),
+    ("set all inline 0\nset all crossline 0\nrenumber all cdp 1 1", "S1", "map crossline ensemble"),
+    ("set all inline 0\nset all crossline 0\nrenumber all cdp 1 1\nrenumber all field_record 1 1", "S1", None), ("set all inline 0\nset all crossline 0", "S1", None),
+])
+def test_lines_that_mend(tmp_path, edits, code, line):
+    """What they write is the number of most traces, and what they delete stands twice."""
+    path = shutil.copy(TOP / "examples" / "cube.sgy", tmp_path)
+    assert lines_for(path, edits).get(code) == line
+    assert line is None or mended(path, edits, code)
+
+
+def test_a_number_of_samples_that_does_not_fit(tmp_path):
+    """Bytes 115-116 cannot tell it: they tell none then."""
+    head = files.binary(samples=0, form=8, major=2, at3269=(4, 70000))
+    traces = [files.trace(n, 1, n, [1, 2] * 35000, size=1, told=told) for n, told in ((1, 0), (2, 17), (3, 0), (4, 18))]
+    path = files.write(tmp_path / "long.sgy", files.header(), head, *traces)
+    assert lines_for(path, "")["F2"] == "set all samples 0 where samples != 0" and mended(path, "", "F2")
+
+
+def test_numbers_of_samples_of_traces_that_differ(tmp_path):
+    """The run that is told has one number; others may have another."""
+    head = files.binary(samples=3, fixed=0, major=2, extensions=1)
+    extension = bytearray(240)
+    extension[136:140] = (3).to_bytes(4, "big")
+    traces = [files.trace(n, 1, n, [1, 2, n], told=told) for n, told in ((1, 3), (2, 17), (3, 17))]
+    traces = [one[:240] + bytes(extension) + one[240:] for one in traces]
+    path = files.write(tmp_path / "own.sgy", files.header(), head, *traces)
+    assert lines_for(path, "")["F2"] == "set 2 3 samples 3" and mended(path, "", "F2")
+
+
+def test_samples_without_values_tell_no_copy(tmp_path):
+    path = files.floats(tmp_path / "opaque.sgy")
+    assert lines_for(path, "copy 2 3", opaque_samples=True, floats=False)["F6"] is None
+    assert lines_for(path, "copy 2 3")["F6"] == "delete 3"
 
 
 def test_a_look_at_very_many_traces_is_costly(desk, monkeypatch):

@@ -104,6 +104,24 @@ def test_a_rectangle(opened, what, wanted):
     assert sum(one or 0 for row in found for one in row) == sum(cells.values())
 
 
+def test_all_that_a_rectangle_finds(opened):
+    """Where its traces stand in too many runs one line with a condition is offered, and does the same."""
+    page = opened("wrong_line", before="import segywb.desk.views as views; views.MOST_RUNS = 1")
+    page.drag([(0, 0), (0, 1)])
+    assert page.text("offer-count") == "4 traces" and page.find("offer-found").is_selected() and not page.find("offer-found").is_enabled()
+    assert "swap" not in page.find("offer-what").text
+    found = "where inline = 101 and crossline >= 201 and crossline <= 202"
+    for what, wanted in (("set", "set all inline 101"), ("compute", "compute all inline inline + 0"), ("delete", "delete all"), ("renumber", "renumber all inline 101 0")):
+        page.js("const one = document.getElementById('offer-what'); one.value = arguments[0]; one.dispatchEvent(new Event('input'))", what)
+        assert page.one("#offers pre").text == f"{wanted} {found}"
+    page.find("offer-value").clear()
+    page.find("offer-value").send_keys("102")
+    page.step("offer-run")
+    both = ["renumber 1 2 inline 102 0", "renumber 5 6 inline 102 0"], [f"renumber all inline 102 0 {found}"]
+    assert len({run(page.desk.path, "\n".join([*lines, "table 1 12 inline", ""]))[0].split("table ")[1] for lines in both}) == 1
+    assert page.map()[:2] == [[None, None, 2, 2], [2, 2, None, None]]
+
+
 def test_select_and_renumber(opened):
     page = opened("wrong_line")
     page.run("renumber 5 8 inline 107 0")
@@ -236,11 +254,69 @@ def test_a_run_of_a_problem_leads_to_its_first_trace(opened):
     assert page.wait(lambda: page.all("tr.here"))[0].get_attribute("data-trace") == "7"
 
 
+SHAPES = "return (document.getElementById(arguments[0])._fullLayout.shapes || []).map(({x0, x1, y0, y1}) => [x0, x1, y0, y1])"
+
+
+# What the frame of the traces 6 and 7 of 40 shows at its upper edge, and within.
+FRAME = """
+const one = document.getElementById('section-canvas'), copy = Object.assign(document.createElement('canvas'), {width: one.width, height: one.height});
+const pen = copy.getContext('2d', {willReadFrequently: true}), each = (one.clientWidth - 78) / 40;
+pen.drawImage(one, 0, 0);
+const at = (column, down) => [...pen.getImageData(Math.round(70 + column * each), Math.round(down), 1, 1).data];
+const kind = ([red, green, blue]) => (red === green && green === blue ? 'grey' : red > 150 && green < 80 ? 'mark' : 'other');
+const found = [kind(at(5.5, 26)), kind(at(5.5, one.clientHeight / 2))];
+return found[0] === 'mark' ? found : null;
+"""
+
+
+def test_a_file_without_traces(opened, tmp_path):
+    page = opened(files.write(tmp_path / "empty.sgy", files.header(), files.binary(samples=25)))
+    page.wait(lambda: page.text("problems-said") == "No problems found: the file has no traces.")
+    page.wait(lambda: page.text("section-caption") == "The file has no traces.")
+
+
+def test_a_problem_is_shown_everywhere(opened, tmp_path):
+    """On the map, in the section, on the graph and in the table, while the page stays where it is; all that are alike are mended by one line."""
+    page = opened(survey(tmp_path / "survey.sgy"))
+    for name in ("section", "graph"):
+        page.press(f"#{name} .fold")
+    page.run("set 6 7 delay 30")
+    page.run("set 50 delay 30")
+    lead = "return [...document.querySelectorAll('#panel button')].find((one) => one.textContent === arguments[0]).click()"
+    page.wait(lambda: "traces 6 to 7: delay 30 usual 0" in page.text("panel"))
+    line = "return document.querySelector('[aria-label=\"put a line for F6 into the command line\"]').textContent"
+    assert page.js(line) == "renumber 441 480 inline 112 0"  # inline 112 lacks, and stands on 111
+    page.js("document.querySelector('[aria-label=\"show where S4 is\"]').click()")
+    page.wait(lambda: page.text("problem-window").startswith("S4: 2 runs"))
+    lines = page.js("return [...document.querySelectorAll('#problem-window .line')].map((one) => one.textContent)")
+    assert lines == ["set 6 7 delay 0", "set all delay 0 where delay = 30", "set 50 delay 0", "set all delay 0 where delay = 30"]
+    page.js("window.scrollTo(0, 0)")
+    page.js(lead, "traces 6 to 7: delay 30 usual 0")
+    page.wait(lambda: page.js(SHAPES, "plot-now") == [[4.5, 5.5, -0.5, 0.5], [5.5, 6.5, -0.5, 0.5]])
+    page.wait(lambda: page.js("return document.getElementById('section-canvas').shown.told.sides[0].marks") == [[5, 7]])
+    assert page.wait(lambda: page.js(FRAME)) == ["mark", "grey"]  # a frame, which leaves the samples their colours
+    assert page.find("section-value").get_attribute("value") == "101"
+    page.wait(lambda: page.js(SHAPES, "plot-graph")[0][:2] == [5.5, 7.5])
+    page.wait(lambda: page.js("return [...document.querySelectorAll('tr.spot')].map((one) => one.dataset.trace)") == ["6", "7"])
+    assert page.js("return window.scrollY") == 0 and page.text("spot-said").startswith("Marked on the map, ")
+    assert page.browser.save_screenshot(f"{os.environ.get('SEGYWB_PICTURES') or tmp_path}/desk-problems.png")
+    page.click("spot-none")
+    page.wait(lambda: page.js(SHAPES, "plot-now") == [] and page.js("return document.getElementById('section-canvas').shown.told.sides[0].marks") == [] and not page.all("tr.spot"))
+    page.js(lead, "traces 6 to 7: delay 30 usual 0")
+    page.wait(lambda: len(page.js(SHAPES, "plot-now")) == 2)
+    page.js(lead, "set all delay 0 where delay = 30")
+    page.step_of_line()
+    page.wait(lambda: "traces 6 to 7" not in page.text("panel") and page.js(SHAPES, "plot-now") == [] and page.js(SHAPES, "plot-graph") == [])
+    assert run(page.desk.path, "set 6 7 delay 30\nset 50 delay 30\nset all delay 0 where delay = 30\ncount all where delay = 30\n")[0] == "ok\nok\nok 3\nchosen 0\n"
+    page.js(lead, "inline 112: step 1")
+    page.wait(lambda: page.js(SHAPES, "plot-now") == [[-0.5, 39.5, 10.5, 11.5]])
+
+
 def test_a_line_that_mends_a_problem(opened):
     """It is put into the command line, and runs when it is entered."""
     page = opened("wrong_count")
     page.wait(lambda: len(page.all("#panel button.line")) == 2)
-    assert [one.text for one in page.all("#panel button.line")] == ["set 1 12 interval 2000", "bin trace_count 12"]
+    assert [one.text for one in page.all("#panel button.line")] == ["bin interval 4000", "bin trace_count 12"]
     page.all("#panel button.line")[1].click()
     assert page.find("line").get_attribute("value") == "bin trace_count 12"
     page.find("line").send_keys(Keys.ENTER)

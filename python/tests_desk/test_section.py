@@ -41,7 +41,7 @@ def made_line(path, traces=200, samples=300, form=3, records=20, delays=False):
         trace = bytearray(
             files.trace(n + 1, 0, 0, patterns, size=4 if form == 5 else 2, signed=False)
         )
-        trace[8:12] = struct.pack(">i", 101 + n // records)
+        trace[8:16] = struct.pack(">ii", 101 + n // records, 1 + offset)
         trace[36:40] = struct.pack(">i", 25 * offset)
         if delays:
             trace[108:110] = struct.pack(">h", 8 * (n % 3))
@@ -117,6 +117,20 @@ def test_a_pixel_holds_the_sample_farthest_from_zero(desk):
         Sections().view(desk, Asked("", None, 1, 0), Window(30, 50, 100, 120, 40, 50), look())
     )
     assert near.tolist() == codes[100:120, 30:50].tolist()
+
+
+def test_the_section_of_a_trace(desk):
+    """Of the kind that is shown; and which columns are marked. What was loaded beside it is the same section."""
+    view = Sections().view
+    marked = look()._replace(marked=(44, 46), side="both")
+    desk.run("delete 1 10")
+    told = view(desk, Asked("auto", None, 1, 0, 45), ALL, marked)[0]
+    assert (told["field"], told["value"]) == ("field_record", 103)
+    assert [one["marks"] for one in told["sides"]] == [[], [[13, 16]]]
+    assert told["sides"][0]["trace"] == list(range(41, 61)) and told["sides"][1]["trace"] == list(range(31, 51))
+    for first, last, trace, wanted in ((20, 29, 25, (20, 29)), (20, 29, 101, (96, 105)), (20, 29, 3, (1, 10)), (20, 29, 999, (181, 190))):
+        told = view(desk, Asked("", None, first, last, trace), ALL, look())[0]
+        assert (told["first"], told["last"]) == wanted, trace
 
 
 def test_which_traces(desk):

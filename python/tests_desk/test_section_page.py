@@ -102,25 +102,26 @@ def test_a_line_without_bins_begins_with_its_section(opened, tmp_path):
 
 
 def test_a_file_of_shots_is_known(opened, tmp_path):
-    """And a command is offered that gives its records a name; a grid, and a file of one record, are none."""
+    """By S1, and a command is offered that makes lines of its records; a grid is none, and no stacked line is."""
     page = opened(made_line(tmp_path / "line.sgy"))
     page.wait(lambda: page.find("section-shots").is_displayed())
     assert page.text("section-shots").startswith(
-        "This looks like a file of 10 shots: it has no bins, and field records 101 to 110."
+        "All traces have inline 0 and crossline 0 (S1), as those of shots: 10 field records, 101 to 110."
     )
-    assert page.find("section-map").text == "Run map shot field_record"
+    page.wait(lambda: page.all('[aria-label="put a line for S1 into the command line"]'))
+    assert page.find("section-map").text == "Run map shot"
     page.find("section-map").click()
     page.wait(
         lambda: not page.find("section-shots").is_displayed() and page.data("sectionVersion") == "2"
     )
-    assert page.answer("map shot field_record") == "ok"
-    change(page, "section-field", "shot")
-    page.wait(lambda: told(page)["field"] == "shot" and told(page)["value"] == 106)
-    for number, path in enumerate(
-        (survey(tmp_path / "survey.sgy"), made_line(tmp_path / "one.sgy", records=500))
-    ):
+    assert page.answer("map shot") == "ok"
+    page.shown(2)
+    assert len(page.map()) == 10
+    grid, stack = survey(tmp_path / "survey.sgy"), made_line(tmp_path / "stack.sgy")
+    for path, line in ((grid, "count"), (stack, "renumber all crossline 1 1")):
         made = loaded(path)
-        assert sections.shots(made) is None, number
+        made.run(line)
+        assert sections.shots(made) is None, path
         made.close()
 
 
@@ -270,6 +271,18 @@ def test_an_edit_is_seen_beside_what_was(opened, tmp_path):
     assert [one["end"] for one in told(page)["sides"]][1] == 30000 and told(page)["sides"][0][
         "end"
     ] < 10000
+    page.run("delete 1")
+    page.wait(lambda: page.data("sectionVersion") == page.data("version"))
+    each = (page.js("return document.getElementById('section-canvas').clientWidth") - 156) / 2
+    left, top = spot(page, 0, 0.5)
+    point(page, (round(left + 70 + 2.5 / 20 * each), top), press=True)
+    page.wait(lambda: page.all("tr.here"))
+    assert page.one("tr.here").get_attribute("data-trace") == "2"  # the third one, as it was loaded
+    opened_section(page)
+    left, top = spot(page, 0, 0.5)
+    point(page, (round(left + 70 + 0.5 / 20 * each), top), press=True)
+    page.wait(lambda: page.text("section-under").endswith("1 as it was loaded: it is no longer there."))
+    page.step("undo")
     change(page, "section-side", "difference")
     page.wait(lambda: [one["name"] for one in told(page)["sides"]] == ["difference"])
     shown = sent(page).reshape(told(page)["sides"][0]["rows"], 20)

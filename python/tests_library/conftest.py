@@ -30,7 +30,7 @@ SAME = """
 SELECT path, name, root, state, refusal, refusal_text, hint, trouble, size, modified, changed, inode, settled, gone IS NULL, sha256, md5, trace_md5,
     byte_order, revision, format, fixed, extensions, blocks, trailer, traces, samples, interval, inlines, crosslines, least_length, greatest_length, least_inline,
     greatest_inline, least_crossline, greatest_crossline, least_offset, greatest_offset, least_x, greatest_x, least_y, greatest_y, least_scalar,
-    greatest_scalar, outline, alphabet, trailing_bytes, trailing_zeros, program FROM file
+    greatest_scalar, outline, alphabet, trailing_bytes, trailing_zeros, trailing_traces, program FROM file
 """
 BELOW = ("SELECT path, code, count FROM problem", "SELECT path, field, least, greatest, first, last FROM header", "SELECT path, block, text FROM text")
 

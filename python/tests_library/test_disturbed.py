@@ -4,6 +4,7 @@ import errno
 import os
 import signal
 import time
+import warnings
 
 import pytest
 from conftest import HERE, held, library, rows, started
@@ -125,8 +126,8 @@ def test_a_worker_that_hangs(few, monkeypatch, wrapped):
     monkeypatch.setenv("SEGYWB", wrapped('case $name in */cube.sgy) kill -STOP $PPID ;; esac'))
     monkeypatch.setenv("PYTHONPATH", str(HERE.parent / "src"))
     tasks = [facts.Task(os.fsencode(few / name), 0, 6600) for name in ("cube.sgy", "twice.sgy", "survey.sgy")]
-    one = crew.Crew(1, 3.0)
-    found, until = {}, time.monotonic() + 60
+    one = crew.Crew(1, 10.0)
+    found, until = {}, time.monotonic() + 240
     try:
         one.give(tasks)
         while len(found) < 3 and time.monotonic() < until:
@@ -138,7 +139,7 @@ def test_a_worker_that_hangs(few, monkeypatch, wrapped):
     finally:
         one.close()
     assert [found[task.path]["state"] for task in tasks] == ["failed", "read", "read"]
-    assert found[tasks[0].path]["trouble"] == "no answer within 3 s"
+    assert found[tasks[0].path]["trouble"] == "no answer within 10 s"
 
 
 @pytest.mark.parametrize("number", [errno.EIO, errno.ESTALE, errno.ETIMEDOUT])
@@ -173,3 +174,18 @@ def test_a_file_that_went_away(few, tmp_path):
     assert reading.read(facts.Task(os.fsencode(tmp_path / "absent"), 0, 1), 60).columns["trouble"] == "No such file or directory"
     os.mkfifo(tmp_path / "pipe")
     assert reading.read(facts.Task(os.fsencode(tmp_path / "pipe"), 0, 1), 60).other == "no file"
+
+
+def test_a_worker_that_is_slow_to_die(monkeypatch):
+    """It is not waited for, and nobody is warned of it."""
+    monkeypatch.setattr(crew, "GOODBYE_SECONDS", 0.0)
+    monkeypatch.setattr(crew.os, "killpg", lambda *_: None)
+    with warnings.catch_warnings(record=True) as told:
+        warnings.simplefilter("always")
+        worker = crew.Worker()
+        process = worker.pid
+        assert worker.end() == "it does not end"
+        del worker
+    os.kill(process, signal.SIGKILL)
+    crew._BEHIND.pop().wait()
+    assert [str(one.message) for one in told] == []

@@ -31,6 +31,19 @@ def test_on_a_terminal(monkeypatch):
     assert last.strip() == "" and len(first) == progress.WIDTH
 
 
+def test_a_large_file_behind_small_ones(monkeypatch):
+    """What is left of it is not told by the bytes that small files have a second."""
+    moment = [0.0]
+    monkeypatch.setattr(time, "monotonic", lambda: moment[0])
+    stream = io.StringIO()
+    told = progress.Progress(stream)
+    for _ in range(300):
+        told.done(5_000)
+    moment[0] += 60
+    told.show(301, 2_001_500_000, 0, False)
+    assert stream.getvalue().endswith(", 3 min 20 s left\n")
+
+
 def test_elsewhere(monkeypatch):
     """A line now and then; nothing where nothing is wanted."""
     moment = [0.0]

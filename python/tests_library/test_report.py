@@ -46,7 +46,7 @@ def test_page(reported):
     database, text, _ = reported
     page = Page(text)
     heads = (
-        "Totals", "Refused files", "Problems", "Headers that stand out", "Bytes behind the last whole trace", "Histograms", "Outlines of the surveys",
+        "Totals", "Refused files", "Problems", "Headers that stand out", "Bytes behind the last sound trace", "Histograms", "Outlines of the surveys",
         "Duplicates", "Named as SEG-Y, and none by their content", "Mends",
     )
     places = {attributes["id"] for tag, attributes in page.tags if tag == "h2"}

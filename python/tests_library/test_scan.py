@@ -270,7 +270,8 @@ def test_what_may_not_be_read(few, tmp_path):
     assert rows(out / "lib.db", "SELECT count(*) FROM file WHERE gone IS NULL AND name = 'line.sgy'") == [(1,)]
     (few / "inner").chmod(0o755)
     (few / "cube.sgy").chmod(0o444)
-    assert as_nobody("scan", "--db", out / "lib.db", few).returncode == 0
+    done = as_nobody("scan", "--db", out / "lib.db", few)
+    assert (done.returncode, rows(out / "lib.db", "SELECT name, trouble FROM file WHERE state = 'failed'")) == (0, []), done.stderr
     assert rows(out / "lib.db", "SELECT count(*) FROM unlisted") == [(0,)]
 
 

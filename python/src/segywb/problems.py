@@ -21,7 +21,7 @@ class ProblemRun(NamedTuple):
 class Problem(NamedTuple):
     """A problem of a file: its code, how many traces have it (``None`` where it is not of traces:
     F7, F8, S7, S8, S9), in how many runs they stand, the first ten of these, the other numbers of
-    its line, and the whole text.
+    its line, the whole text, and ``of``, how many traces the file has.
 
     The runs of S7 and S8 are gaps, of inlines or crosslines that are missing."""
 
@@ -31,6 +31,7 @@ class Problem(NamedTuple):
     first_runs: List[ProblemRun]
     facts: Dict[str, int]
     text: str
+    of: Optional[int] = None
 
     @property
     def meaning(self) -> str:
@@ -44,21 +45,48 @@ class Problem(NamedTuple):
 
     @property
     def mend(self) -> Optional[str]:
-        """The line of a script that mends it, where one line does, else ``None``. It is for you to
-        say whether it is meant.
+        """The line of a script that mends it, where one line does, else ``None``.
+
+        It is for you to say whether it is meant: the number that most traces have may be the wrong
+        one. No line is named where that is the number of less than half of the traces, and none for
+        F1 where the traces may stand in another order than they were numbered in.
 
         >>> with segywb.open("missing.sgy") as v:
         ...     v.problems()[0].mend
         'renumber all sequence_file 1 1'
         """
         if self.code == "F1":
-            return "renumber all sequence_file 1 1"
+            return None if self._shuffled() else "renumber all sequence_file 1 1"
         if self.code == "F7":
             return f"bin trace_count {self.facts['traces']}"
-        if self.code in _USUAL and self.first_runs:
+        if self.code in _USUAL and self.first_runs and not self.most:
             name, usual = _USUAL[self.code], self.first_runs[0].facts["usual"]
             return f"set all {name} {usual} where {name} != {usual}"
         return None
+
+    @property
+    def most(self) -> bool:
+        """Whether more than half of the traces have it: then the others may be the odd ones.
+
+        >>> with segywb.open("wrong_count.sgy") as v:
+        ...     v.problems()[0].most
+        True
+        """
+        return self.traces is not None and self.of is not None and 2 * self.traces > self.of
+
+    def _shuffled(self) -> bool:
+        """Whether the numbers in the file (F1) fall somewhere and none stands twice, as far as the
+        first runs tell; numbers below 1 tell nothing."""
+        spans = []
+        place = 1
+        for first, last, facts in self.first_runs:
+            least, greatest = first + facts["shift"], last + facts["shift"]
+            spans += [(place, first - 1)] if place < first else []
+            spans += [(least, greatest)] if least > 0 else []
+            place = last + 1
+        falls = any(one[1] > two[0] for one, two in zip(spans, spans[1:]))
+        rising = sorted(spans)
+        return falls and all(one[1] < two[0] for one, two in zip(rising, rising[1:]))
 
     @property
     def how_many(self) -> int:
@@ -108,7 +136,7 @@ def _run(line: str) -> ProblemRun:
     return ProblemRun(int(first), int(last), _numbers(facts))
 
 
-def _problem(lines: List[str]) -> Problem:
+def _problem(lines: List[str], of: Optional[int] = None) -> Problem:
     """
     >>> _problem(["problem S7 missing 3 runs 1", "run 103 107 step 2"]).first_runs[0].facts
     {'step': 2}
@@ -122,12 +150,13 @@ def _problem(lines: List[str]) -> Problem:
     told = [_run(line) for line in lines[1:]]
     if len(told) != min(runs, 10):
         raise unexpected(lines[0])
-    return Problem(code, traces, runs, told, facts, "\n".join(lines))
+    return Problem(code, traces, runs, told, facts, "\n".join(lines), of)
 
 
 @strict
-def problems(lines: List[str]) -> List[Problem]:
-    """
+def problems(lines: List[str], of: Optional[int] = None) -> List[Problem]:
+    """Of a file of so many traces, where that is known.
+
     >>> told = ["problem F8 lines 3", "problem S12 traces 2 runs 1", "run 5 6 value 0"]
     >>> [(one.code, one.traces, one.facts) for one in problems(["problems 2", *told])]
     [('F8', None, {'lines': 3}), ('S12', 2, {})]
@@ -139,4 +168,4 @@ def problems(lines: List[str]) -> List[Problem]:
         groups[-1].append(line)
     if words(lines[0], "problems") != [str(len(groups))]:
         raise unexpected(lines[0])
-    return [_problem(group) for group in groups]
+    return [_problem(group, of) for group in groups]

@@ -170,7 +170,7 @@ class Reports(Contents):
         ...         print(one.code, one.traces, one.first_runs[0])
         F1 5 ProblemRun(first=7, last=11, facts={'shift': 1})
         """
-        return problems.problems(self._ask("problems"))
+        return problems.problems(self._ask("problems"), len(self))
 
     def _counts(self, line: str, head: str, row: str) -> Dict[int, int]:
         return answers.counts(self._ask(line), head, row)

@@ -64,5 +64,6 @@ class Guard:
         except web.HTTPException as error:
             return web.Response(status=error.status, text=f"{error.reason}\n", headers=HEADERS)
         if not response.prepared:
-            response.headers.update(HEADERS)
+            for name, value in HEADERS.items():
+                response.headers.setdefault(name, value)
         return response

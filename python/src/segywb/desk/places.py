@@ -9,8 +9,10 @@ import numpy as np
 from . import maps
 from .desk import Desk, Shot
 from .marks import buries
+from .mirror import PLACES
 
 MOST_RINGS = 2000
+MOST_BOXES = 200
 MOST_POINTS = 4000
 MOST_SORTED = 20  # as a power of two: of more traces some are looked at to find the survey
 REACH = 2
@@ -39,6 +41,41 @@ def scaled(shot: Shot) -> Tuple[Any, Any]:
     by = shot.mirror.columns["scalar"].astype(np.float64)
     times, over = np.where(by > 0, by, 1.0), np.where(by < 0, -by, 1.0)
     return shot.mirror.columns["x"] * times / over, shot.mirror.columns["y"] * times / over
+
+
+def spot(desk: Desk, first: int, last: int) -> Dict[str, Any]:
+    """Where the traces from one to another lie: boxes of inlines and crosslines around each cell, where these are many around the cells of each inline, or
+    around all; and the coordinates of the first of them."""
+    now = desk.widen(PLACES)[1]
+    part = slice(max(first, 1) - 1, max(last, 1))
+    inlines, crosslines = (now.mirror.columns[name][part] for name in ("inline", "crossline"))
+    x, y = (one[part][:MOST_BOXES].tolist() for one in scaled(now))
+    return {"version": desk.version, "first": first, "last": last, "boxes": boxes_of(inlines, crosslines), "x": x, "y": y}
+
+
+def boxes_of(inlines: Any, crosslines: Any) -> List[List[int]]:
+    """The least and the greatest inline and crossline of each box.
+
+    >>> boxes_of(np.array([7, 7, 9, 7]), np.array([1, 2, 5, 1]))
+    [[7, 7, 1, 1], [7, 7, 2, 2], [9, 9, 5, 5]]
+    >>> boxes_of(np.repeat([7, 9], 500), np.arange(1000))
+    [[7, 7, 0, 499], [9, 9, 500, 999]]
+    """
+    cells = np.unique(np.stack([inlines, crosslines], axis=1), axis=0)
+    if len(cells) <= MOST_BOXES:
+        return [[inline, inline, crossline, crossline] for inline, crossline in cells.tolist()]
+    lines, starts = np.unique(cells[:, 0], return_index=True)
+    last = np.append(starts[1:], len(cells)) - 1
+    if len(lines) <= MOST_BOXES:
+        lows, highs = cells[starts, 1], cells[last, 1]
+        return [[line, line, low, high] for line, low, high in zip(lines.tolist(), lows.tolist(), highs.tolist())]
+    return [[int(lines[0]), int(lines[-1]), int(cells[:, 1].min()), int(cells[:, 1].max())]]
+
+
+def stands(desk: Desk, trace: int) -> Dict[str, Any]:
+    """Where the trace stands now that had this position when the file was loaded; 0 where it is gone."""
+    found = np.flatnonzero(desk.now().mirror.origin == trace)
+    return {"version": desk.version, "trace": int(found[0]) + 1 if len(found) else 0}
 
 
 def ends(values: Any) -> List[float]:

@@ -10,7 +10,6 @@ from typing import Any, Dict, List, NamedTuple, Optional, Tuple, TypedDict
 import numpy as np
 
 from .. import gains
-from ..fields import TRACE_NAMES
 from ..gains import Gain
 from ..lines import word
 from ..sections import ALONG, Section, SectionReading
@@ -26,7 +25,9 @@ MOST_FIELDS = 3
 MOST_KEPT = 4
 FEW_TRACES = 2000  # how many traces of a line without bins are shown at first
 ROOM = 4  # pixels that a wiggle wants
+MOST_MARKS = 500
 RECORD = "field_record"
+IN_RECORD = "trace_in_record"
 LATER = 4  # behind the first look so many times as much is read until the next one
 COARSE = (
     8  # every so manieth sample is read first, and stands for those behind it until they are there
@@ -42,13 +43,15 @@ Key = Tuple[
 
 class Asked(NamedTuple):
     """Which traces: those whose ``field`` has a ``value`` (the middle one where none is named), or
-    without a field those from ``first`` to ``last``.
+    without a field those from ``first`` to ``last``; where a ``trace`` is sought the section of
+    that kind which has it.
     """
 
     field: str
     value: Optional[int]
     first: int
     last: int
+    trace: int = 0
 
 
 class Window(NamedTuple):
@@ -66,13 +69,14 @@ class Window(NamedTuple):
 
 class Look(NamedTuple):
     """How it is drawn: ``density``, ``wiggles`` or ``both``; what is now, also what was, or their
-    difference; the gain; the headers above it.
+    difference; the gain; the headers above it; the first and the last of the traces that are marked.
     """
 
     style: str
     side: str
     gain: Gain
     fields: List[str]
+    marked: Tuple[int, int] = (0, 0)
 
 
 class Header(TypedDict):
@@ -99,18 +103,20 @@ class Side(TypedDict):
     trace: List[int]
     end: float
     odd: int
+    marks: List[List[int]]
     headers: List[Header]
 
 
 class Shots(TypedDict):
-    """Records of a file that looks like one of shots: how many there are, the least and the
-    greatest number, and whether a name is bound to their place.
+    """Records of a file whose traces all have one inline and one crossline, as those of shots (S1):
+    how many there are, and the least and the greatest number.
     """
 
     count: int
     first: int
     last: int
-    named: bool
+    inline: int
+    crossline: int
 
 
 class Told(TypedDict):
@@ -179,9 +185,9 @@ def asked(query: Any) -> Asked:
     """The traces that a query means.
 
     >>> asked({"field": "inline", "value": "1100"})
-    Asked(field='inline', value=1100, first=1, last=0)
-    >>> asked({"first": "3", "last": "9"})
-    Asked(field='', value=None, first=3, last=9)
+    Asked(field='inline', value=1100, first=1, last=0, trace=0)
+    >>> asked({"first": "3", "last": "9", "trace": "12"})
+    Asked(field='', value=None, first=3, last=9, trace=12)
     """
     field = word(str(query.get("field", "")).strip())
     if " " in field:
@@ -192,6 +198,7 @@ def asked(query: Any) -> Asked:
         int(value) if value and field else None,
         int(query.get("first", "1")),
         int(query.get("last", "0")),
+        int(query.get("trace", "0")),
     )
 
 
@@ -215,7 +222,8 @@ def look_of(query: Any) -> Look:
         raise ValueError(
             f"up to {MOST_FIELDS} fields can be drawn above a section, not {len(fields)}"
         )
-    return Look(style, side, gains.checked(gain), fields)
+    first, last = (int(one) for one in str(query.get("marked", "0 0")).split())
+    return Look(style, side, gains.checked(gain), fields, (first, last))
 
 
 def window_of(query: Any) -> Window:
@@ -248,34 +256,51 @@ def automatic(desk: Desk) -> Asked:
     now = desk.now()
     if now.inlines.shape[1] > 1 and now.crosslines.shape[1] > 1:
         return Asked("inline", None, 1, 0)
-    if shots(desk) is not None:
-        return Asked("field_record", int(desk.now().mirror.columns["field_record"][0]), 1, 0)
+    found = shots(desk)
+    if found is not None and found["count"] > 1:
+        return Asked(RECORD, int(desk.now().mirror.columns[RECORD][0]), 1, 0)
     return Asked("", None, 1, min(len(now.mirror), FEW_TRACES))
 
 
 def shots(desk: Desk) -> Optional[Shots]:
-    """The records of a file without a grid of bins, where there are several of them with several
-    traces each in the mean.
+    """The records of a file of which ``problems`` tells S1: two or more traces, all of one inline
+    and one crossline; none where its traces have no numbers in their records.
     """
     now = desk.now()
-    if now.inlines.shape[1] > 1 and now.crosslines.shape[1] > 1:
+    if len(now.mirror) < 2 or now.inlines.shape[1] > 1 or now.crosslines.shape[1] > 1:
         return None
-    record = desk.widen([RECORD])[1].mirror.columns[RECORD]
-    numbers = np.unique(record)
-    if not 1 < len(numbers) <= len(record) // 2:
+    columns = desk.widen([RECORD, IN_RECORD])[1].mirror.columns
+    if len(np.unique(columns[IN_RECORD])) < 2:
         return None
-    named = TRACE_NAMES[RECORD] in desk.volume.fields().values()
+    numbers = np.unique(columns[RECORD])
     return {
         "count": len(numbers),
         "first": int(numbers[0]),
         "last": int(numbers[-1]),
-        "named": named,
+        "inline": int(now.inlines[0][0]),
+        "crossline": int(now.crosslines[0][0]),
     }
+
+
+def sought(mirror: Any, told: Asked) -> Asked:
+    """The section of the same kind that has the trace which is sought."""
+    trace, told = min(told.trace, len(mirror)), told._replace(trace=0)
+    if trace < 1:
+        return told
+    if told.field:
+        return told._replace(value=int(mirror.columns[told.field][trace - 1]))
+    first, last = span_of(told.first, told.last, len(mirror))
+    if first <= trace <= last:
+        return told
+    size = last - first + 1
+    first = max(1, min(trace - size // 2, len(mirror) - size + 1))
+    return told._replace(first=first, last=first + size - 1)
 
 
 def choose(mirror: Any, told: Asked, samples: int) -> Chosen:
     """The traces of a section in this order of headers."""
     near: Tuple[Optional[int], Optional[int]] = (None, None)
+    told = sought(mirror, told)
     if told.field:
         column = mirror.columns[told.field]
         numbers = np.unique(column)
@@ -318,7 +343,7 @@ class Sections:
 
     def view(self, desk: Desk, told: Asked, window: Window, look: Look) -> Tuple[Told, bytes]:
         """A section as the page draws it: what is told of it, and the bytes of its pictures."""
-        told = automatic(desk) if told.field == "auto" else told
+        told = automatic(desk)._replace(trace=told.trace) if told.field == "auto" else told
         names = [*([told.field] if told.field else []), *look.fields]
         now = desk.widen(names)[1].mirror
         samples = int(desk.now().told["info"].split(" samples ")[1].split(" ")[0])
@@ -499,6 +524,7 @@ class Sections:
             "trace": traces[starts].tolist(),
             "end": end,
             "odd": int(np.count_nonzero(some == gains.LACKS)),
+            "marks": marks(kept.traces, look.marked) if name != "was" else [],
             "headers": [header(mirror, field, traces, starts) for field in look.fields],
         }
         return (
@@ -532,6 +558,17 @@ def difference(now: Kept, was: Kept, origin: Any) -> Kept:
     inside = (columns >= 0) & (columns < values.shape[1])
     values[np.ix_(old, columns[inside])] -= was.values[:, inside]
     return now._replace(values=values, read=min(now.read, was.read))
+
+
+def marks(traces: Any, marked: Tuple[int, int]) -> List[List[int]]:
+    """The columns of the section that have these traces, from one to behind another.
+
+    >>> marks(np.array([4, 9, 5, 6, 20]), (5, 9))
+    [[1, 4]]
+    """
+    found = np.flatnonzero((traces >= marked[0]) & (traces <= marked[1]))
+    parts = np.split(found, np.flatnonzero(np.diff(found) != 1) + 1) if len(found) else []
+    return [[int(one[0]), int(one[-1]) + 1] for one in parts[:MOST_MARKS]]
 
 
 def labels(mirror: Any, told: Asked, traces: Any) -> List[int]:

@@ -120,6 +120,8 @@ class Server:
             "graph": lambda q: graphs.drawn(desk, q, number(q, "first", 1), number(q, "last", 0), window(q).pixels[0]),
             "choose": lambda q: graphs.choose(desk, graphs.parts_of(q), (number(q, "first", 1), number(q, "last", 0))),
             "place": lambda q: views.place(desk, number(q, "trace")),
+            "spot": lambda q: places.spot(desk, number(q, "first"), number(q, "last")),
+            "stands": lambda q: places.stands(desk, number(q, "trace")),
             "under": lambda q: dict(self._sections.under(desk, number(q, "trace"), number(q, "column"), q["names"].split())),
         }
 

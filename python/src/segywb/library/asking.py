@@ -3,26 +3,25 @@
 from __future__ import annotations
 
 import json
-import os
-import re
 from collections import Counter
-from fractions import Fraction
 from typing import Any, Dict, Iterator, List, Optional, Sequence, Tuple
 
 from .. import answers
 from ..problems import problems
+from . import tails
 from .facts import Facts
 from .outlines import Point, hull
 from .sieve import HEAD_BYTES
-from .talk import Talk, accepted, rows
+from .talk import Talk, accepted, found, rows
 
 BLOCK_BYTES = 3200
 MOST_BLOCKS = 100
 POINTS = 50
 WHICH = ("inline", "crossline", "offset", "x", "y")
 IN_MEMORY_BYTES = 1 << 26
-JUNK_BYTES = 1 << 24
-_INSIDE = re.compile(r"ends (\d+) bytes? inside trace")
+FIRST = (
+    "info", "getbin interval", *(f"range {which}" for which in WHICH), "inlines", "crosslines", "code 0", "lines 0", tails.LAST, "extremes 1 last",
+)
 _GOLDEN = 0.6180339887498949
 
 # Programs that answered `problems` by an unknown word, by path: they are asked for `faults`.
@@ -34,10 +33,15 @@ def options(size: int, option: str) -> List[str]:
     return [option, *(["--on-disk"] if size > IN_MEMORY_BYTES else [])]
 
 
-def ask(talk: Talk, facts: Facts, path: str) -> Tuple[int, int]:
-    """Fills the columns; how many bytes stand in front of the traces, and how many behind them."""
-    report = "faults" if _older.get(path) else "problems"
-    talk.send(["info", "getbin interval", *(f"range {which}" for which in WHICH), "inlines", "crosslines", "code 0", "lines 0", report])
+def begin(talk: Talk) -> str:
+    """Asks what can be asked of any file, so that the program answers while something else is done here; the report that tells its problems."""
+    report = "faults" if _older.get(found().path) else "problems"
+    talk.send([*FIRST, report])
+    return report
+
+
+def ask(talk: Talk, facts: Facts, report: str) -> Tuple[int, int]:
+    """Fills the columns, behind ``begin``; how many bytes stand in front of the traces, and how many behind them."""
     info = answers.info(talk.one())
     columns = facts.columns
     columns.update(
@@ -45,17 +49,18 @@ def ask(talk: Talk, facts: Facts, path: str) -> Tuple[int, int]:
         blocks=info.blocks, trailer=info.trailer, traces=info.traces, interval=answers.number(talk.one(), "value"),
     )
     for which in WHICH:
-        span = answers.span(talk.one())
-        least, greatest = span if span is not None else (None, None)
-        columns[f"least_{which}"], columns[f"greatest_{which}"] = _number(least), _number(greatest)
+        columns[f"least_{which}"], columns[f"greatest_{which}"] = _span(talk.one())
     ends = []
     for which in ("inline", "crossline"):
         columns[f"{which}s"], first, last = _lines(talk, which)
         ends += [first, info.traces - last + 1]
     columns["alphabet"] = answers.name(talk.one(), "code")
     facts.texts.append((0, _block(talk.answer())))
-    facts.problems = _problems(talk, report, path)
+    final = tails.last(talk)
+    facts.headers = _headers(talk, info.traces)
+    facts.problems = _problems(talk, report)
     _more(talk, facts, info, positions(info.traces, ends))
+    columns.update(tails.columns(talk, info, columns["interval"], final))
     # The manual's cut of a file: texts of 3200 bytes behind the two headers, then the traces, then trailer records of 3200 bytes.
     return HEAD_BYTES + BLOCK_BYTES * info.blocks, BLOCK_BYTES * info.trailer
 
@@ -70,20 +75,43 @@ def _lines(talk: Talk, which: str) -> Tuple[int, int, int]:
     return count, first, last
 
 
-def _number(value: Optional[Fraction]) -> Any:
-    return None if value is None else value.numerator if value.denominator == 1 and abs(value.numerator) < 1 << 63 else float(value)
+def _span(line: str) -> Tuple[Any, Any]:
+    """The answer to `range`: fractions take long, and nearly all numbers are whole.
+
+    >>> _span("range 45000 900003/2"), _span("range none")
+    ((45000.0, 450001.5), (None, None))
+    """
+    words = line.split(" ")
+    if len(words) == 3 and words[0] == "range" and "/" not in line:
+        return _bounded(words[1]), _bounded(words[2])
+    span = answers.span(line)
+    return (None, None) if span is None else (float(span[0]), float(span[1]))
+
+
+def _bounded(word: str) -> Any:
+    """SQLite's whole numbers end at 63 bits."""
+    number = int(word)
+    return number if abs(number) < 1 << 63 else float(number)
 
 
 def _block(lines: Iterator[str]) -> str:
     """The lines of a block of text, without the blank ones at its end."""
-    told = list(lines)
-    accepted(told[0] if told else "")
-    if not all(line.startswith("line |") and line.endswith("|") for line in told[1:]):
-        raise answers.unexpected(told[0])
-    return "\n".join([line[6:-1] for line in told[1:]]).rstrip("\n")
+    head, *told = [*lines] or [""]
+    accepted(head)
+    if any([line[:6] != "line |" or line[-1:] != "|" for line in told]):
+        raise answers.unexpected(head)
+    return "\n".join([line[6:-1] for line in told]).rstrip("\n")
 
 
-def _problems(talk: Talk, report: str, path: str) -> Dict[str, int]:
+def _headers(talk: Talk, traces: int) -> List[Tuple[str, int, int, int, int]]:
+    """The extremes of each field."""
+    if traces:
+        return [(name, *_four(words)) for _, name, *words in rows(talk.answer(), "extremes")]
+    list(talk.answer())  # refused: there is no trace 1
+    return []
+
+
+def _problems(talk: Talk, report: str) -> Dict[str, int]:
     """How many have each problem, of a program that may not know the report.
 
     Of `problems` these are traces, of F8 lines of the textual header, of F7 one; of S7 and S8 the
@@ -94,9 +122,9 @@ def _problems(talk: Talk, report: str, path: str) -> Dict[str, int]:
     head = next(lines, "")
     if report == "problems" and head.startswith("refused S01 "):
         list(lines)
-        _older[path] = True
+        _older[found().path] = True
         talk.send(["faults"])
-        return _problems(talk, "faults", path)
+        return _problems(talk, "faults")
     accepted(head)
     if report == "problems":
         return {one.code: one.how_many for one in problems([head, *lines])}
@@ -109,19 +137,18 @@ def counted(lines: Iterator[str]) -> Dict[str, int]:
     >>> counted(iter(["F8 lines 3", "F6 trace 5 first 1", "F6 trace 6 first 2"]))
     {'F6': 2, 'F8': 3}
     """
-    found: Counter[str] = Counter()
+    told: Counter[str] = Counter()
     for line in lines:
         code, _, rest = line.partition(" ")
-        found[code] += int(rest[6:]) if rest.startswith("lines ") and rest[6:].isdigit() else 1
-    return dict(sorted(found.items()))
+        told[code] += int(rest[6:]) if rest.startswith("lines ") and rest[6:].isdigit() else 1
+    return dict(sorted(told.items()))
 
 
 def _more(talk: Talk, facts: Facts, info: answers.Info, points: List[int]) -> None:
     """The questions that need the number of traces or of blocks."""
     blocks = range(1, min(info.blocks, MOST_BLOCKS) + 1)
-    talk.send([*(f"extremes 1 {info.traces}" for _ in range(1) if info.traces), *(f"geometry {at}" for at in points)])
     if info.traces:
-        facts.headers = [(name, *_four(words)) for _, name, *words in rows(talk.answer(), "extremes")]
+        talk.send([f"geometry {at}" for at in points])
         facts.columns["outline"] = json.dumps(hull([_place(talk.one()) for _ in points]))
     for block in blocks:
         talk.send([f"lines {block}"])
@@ -138,25 +165,25 @@ def _place(line: str) -> Point:
     >>> _place("geometry inline 1 crossline 2 offset 0 x 90005/2 y 680000")
     (45002.5, 680000.0)
     """
-    words = line.split(" ")
-    if len(words) != 11 or words[7] != "x" or words[9] != "y":
+    words = line.rsplit(" ", 4)
+    if len(words) != 5 or words[1] != "x" or words[3] != "y":
         raise answers.unexpected(line)
-    return _ratio(words[8]), _ratio(words[10])
+    return _ratio(words[2]), _ratio(words[4])
 
 
 def _ratio(word: str) -> float:
+    if "/" not in word:
+        return float(word)
     above, _, below = word.partition("/")
-    return int(above) / int(below or 1)
+    return int(above) / int(below)
 
 
 def _four(words: Sequence[str]) -> Tuple[int, int, int, int]:
-    least, greatest, first, last = map(_whole, words)
-    return least, greatest, first, last
-
-
-def _whole(word: str) -> int:
     """SQLite's whole numbers end at 63 bits: the few above them, of unsigned fields of eight bytes, are told as that bound."""
-    return min(int(word), (1 << 63) - 1)
+    least, greatest, first, last = map(int, words)
+    if greatest >= 1 << 63:
+        least, greatest, first, last = (min(number, (1 << 63) - 1) for number in (least, greatest, first, last))
+    return least, greatest, first, last
 
 
 def positions(traces: int, ends: Sequence[int]) -> List[int]:
@@ -186,12 +213,3 @@ def lengths(info: answers.Info, told: Optional[Tuple[int, int]], wrong: int) -> 
         return info.samples, info.samples
     return told if told is not None and told[0] > 0 and not wrong else (None, None)
 
-
-def trailing(descriptor: int, size: int, hint: str) -> Dict[str, Any]:
-    """What stands behind the last whole trace of a file that ends inside one (L14). The hint says how many bytes that is."""
-    told = _INSIDE.search(hint)
-    if not told:
-        return {}
-    rest = int(told[1])
-    tail = os.pread(descriptor, rest, size - rest) if rest <= JUNK_BYTES else b"?"
-    return {"trailing_bytes": rest, "trailing_zeros": int(not any(tail))}

@@ -21,6 +21,12 @@ SOURCE = str(Path(__file__).resolve().parents[2])
 START = "import sys; sys.path[0] = sys.argv[1]; from segywb.library.worker import main; main(int(sys.argv[2]))"
 GRACE_SECONDS = 10.0
 GOODBYE_SECONDS = 2.0
+# A worker gets more before it has none, so that it does not wait for it.
+FEW = 4
+FEW_BYTES = 1 << 22
+MOMENT_SECONDS = 0.004
+# Processes that were ended and are not gone yet, as behind a disk that does not answer, or where others have all processors.
+_BEHIND: "List[subprocess.Popen[bytes]]" = []
 
 
 class Worker:
@@ -42,14 +48,20 @@ class Worker:
         return self._process.pid
 
     @property
+    def short(self) -> bool:
+        """Whether it has little left to do, so that it would soon wait for more."""
+        return len(self.tasks) <= FEW and sum(task.size for task in self.tasks) <= FEW_BYTES
+
+    @property
     def ended(self) -> bool:
         """Whether its process has ended."""
         return self._process.poll() is not None
 
     def give(self, tasks: List[Task], seconds: float) -> None:
         """Files to read."""
+        if not self.tasks:
+            self._since = time.monotonic()
         self.tasks.extend(tasks)
-        self._since = time.monotonic()
         try:
             self.pipe.send((tasks, seconds))
         except OSError:
@@ -77,7 +89,7 @@ class Worker:
         try:
             self._process.wait(GOODBYE_SECONDS)
         except subprocess.TimeoutExpired:
-            pass
+            _BEHIND.append(self._process)
         status = early if early is not None else self._process.returncode
         if status is None:
             return "it does not end"
@@ -100,23 +112,28 @@ class Crew:
 
     def idle(self) -> bool:
         """Whether files can be given."""
-        return len(self._workers) < self._size or any(not worker.tasks for worker in self._workers)
+        return len(self._workers) < self._size or any(worker.short for worker in self._workers)
 
     def give(self, tasks: List[Task]) -> None:
-        """Files for a worker that has none. One that has died since is not blamed on them."""
-        for worker in [one for one in self._workers if not one.tasks]:
-            if not worker.ended:
-                worker.give(tasks, self._seconds)
-                return
-            worker.end()
-            self._workers.remove(worker)
-        self._workers.append(Worker())
-        self._workers[-1].give(tasks, self._seconds)
+        """Files for the worker that has the fewest. One that had none and has died since is not blamed on them."""
+        for dead in [one for one in self._workers if not one.tasks and one.ended]:
+            dead.end()
+            self._workers.remove(dead)
+        short = [one for one in self._workers if one.short]
+        worker = min(short, key=lambda one: len(one.tasks)) if short else None
+        if worker is None or (worker.tasks and len(self._workers) < self._size):
+            worker = Worker()
+            self._workers.append(worker)
+        worker.give(tasks, self._seconds)
 
     def gather(self, timeout: float) -> List[Facts]:
-        """What was found meanwhile. Files of a worker that died over another one are in ``back``."""
+        """What was found meanwhile, and a moment later: the rows of several files cost little more than one. Files of a worker that died are in ``back``."""
         found: List[Facts] = []
-        ready = wait([worker.pipe for worker in self._workers if worker.tasks], timeout)
+        pipes = [worker.pipe for worker in self._workers if worker.tasks]
+        ready = wait(pipes, timeout)
+        if ready and timeout:
+            time.sleep(MOMENT_SECONDS)
+            ready = wait(pipes, 0.0)
         for worker in list(self._workers):
             if worker.pipe in ready:
                 try:

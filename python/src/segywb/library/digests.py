@@ -37,24 +37,53 @@ def blocks(descriptor: int, deadline: float) -> Iterator[Tuple[int, bytes]]:
             raise Slow
 
 
-def of(descriptor: int, size: int, traces: Optional[Tuple[int, int]], deadline: float) -> Digests:
-    """The digests of a file; ``traces`` are the places where its traces begin and end.
+def read(descriptor: int, size: int) -> bytes:
+    """The first bytes of a file: so many, or all where there are fewer."""
+    data = b""
+    while len(data) < size:
+        more = os.pread(descriptor, size - len(data), len(data))
+        if not more:
+            break
+        data += more
+    return data
 
-    Those of a large file are taken side by side, so that none waits for the disk because of another.
-    """
-    whole, short = hashlib.sha256(), hashlib.md5(usedforsecurity=False)
-    # The quickest one: it finds files with the same traces, and vouches for none.
-    part = hashlib.md5(usedforsecurity=False) if traces else None
-    begin, end = traces or (0, 0)
-    if size < LARGE:
-        for at, block in blocks(descriptor, deadline):
-            whole.update(block)
-            short.update(block)
+
+def of(descriptor: int, size: int, traces: Optional[Tuple[int, int]], deadline: float) -> Digests:
+    """The digests of a file; ``traces`` are the places where its traces begin and end."""
+    return Digesting(descriptor, size, deadline).end(traces)
+
+
+class Digesting:
+    """The digests of a file: those of a small one are taken at once, while its program starts, the others at the end."""
+
+    def __init__(self, descriptor: int, size: int, deadline: float) -> None:
+        self._descriptor, self._size, self._deadline = descriptor, size, deadline
+        self._whole, self._short = hashlib.sha256(), hashlib.md5(usedforsecurity=False)
+        self._only: Optional[bytes] = None
+        if size < BLOCK:
+            self._only = read(descriptor, size)
+            self._whole.update(self._only)
+            self._short.update(self._only)
+
+    def end(self, traces: Optional[Tuple[int, int]]) -> Digests:
+        """The digests; ``traces`` as for ``of``.
+
+        Those of a large file are taken side by side, so that none waits for the disk because of another.
+        """
+        # The quickest one: it finds files with the same traces, and vouches for none.
+        part = hashlib.md5(usedforsecurity=False) if traces else None
+        begin, end = traces or (0, 0)
+        wanted = [(self._whole, 0, 1 << 63), (self._short, 0, 1 << 63), *([(part, begin, end)] if part is not None else [])]
+        if self._only is not None:
             if part is not None:
-                part.update(_cut(block, at, begin, end))
-    else:
-        _side_by_side(descriptor, deadline, [(whole, 0, 1 << 63), (short, 0, 1 << 63), *([(part, begin, end)] if part is not None else [])])
-    return Digests(whole.hexdigest(), short.hexdigest(), part.hexdigest() if part is not None else None)
+                part.update(_cut(self._only, 0, begin, end))
+        elif self._size < LARGE:
+            for at, block in blocks(self._descriptor, self._deadline):
+                for digest, first, last in wanted:
+                    digest.update(_cut(block, at, first, last))
+        else:
+            _side_by_side(self._descriptor, self._deadline, wanted)
+        return Digests(self._whole.hexdigest(), self._short.hexdigest(), part.hexdigest() if part is not None else None)
 
 
 def _cut(block: bytes, at: int, begin: int, end: int) -> memoryview:

@@ -271,7 +271,7 @@ class Again:
             root = len(path_of(path[:rows[0]["root"]]))
             facts = reading.read(Task(path_of(path), root, rows[0]["size"]), self._seconds)
             with self._trail.guarded():
-                store.put(self._database, facts, self._scan)
+                store.put(self._database, [facts], self._scan)
 
     def end(self) -> None:
         """All of them are read."""

@@ -7,7 +7,8 @@ import sqlite3
 from typing import NamedTuple, Tuple
 from urllib.parse import quote
 
-from .schema import APPLICATION, VERSION, NoLibrary, transaction
+from .schema import APPLICATION, LATER_COLUMNS, VERSION, NoLibrary, transaction
+from .schema import columns as columns_of
 from .store import FILE_COLUMNS, OTHER_COLUMNS
 
 _SCANS = """
@@ -72,10 +73,11 @@ def _chosen(database: sqlite3.Connection, table: str) -> None:
 
 def _put(database: sqlite3.Connection, table: str, columns: Tuple[str, ...]) -> int:
     """The rows of a table that are new, with the number that their scan has here."""
+    lacking = set(LATER_COLUMNS) - set(columns_of(database, "part"))  # of a part that an earlier package made
     names = ", ".join(columns)
     values = ", ".join(
         "(SELECT ours.id FROM main.scan AS ours JOIN part.scan AS theirs ON ours.mark = theirs.mark WHERE theirs.id = one.scan)" if name == "scan"
-        else f"one.{name}" for name in columns
+        else "NULL" if name in lacking else f"one.{name}" for name in columns
     )
     changed = ", ".join(f"{name} = excluded.{name}" for name in columns if name != "path")
     made = database.execute(

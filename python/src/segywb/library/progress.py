@@ -9,6 +9,7 @@ from typing import Optional, TextIO
 TERMINAL_SECONDS = 0.2
 FILE_SECONDS = 30.0
 WIDTH = 118
+LEAST_RATE = 1e7  # bytes a second, as the time for a file allows
 
 
 def bytes_told(count: float) -> str:
@@ -68,10 +69,14 @@ class Progress:
             line += f", {unchanged:,} unchanged"
         if self.files:
             line += f", {self.files / seconds:,.0f} files/s, {bytes_told(self.bytes / seconds)}/s"
-            share = max(self.bytes / size if size else 0.0, 1e-9)
             if not looking:
-                line += f", {time_told(seconds * (1 - share) / share)} left"
+                line += f", {time_told(self._left(files, size, seconds))} left"
         return line
+
+    def _left(self, files: int, size: int, seconds: float) -> float:
+        """How long the rest takes: small files by their number, large ones by their bytes, of which small ones that are read say little."""
+        rate = max(self.bytes / seconds, LEAST_RATE)
+        return max((files - self.files) * seconds / self.files, (size - self.bytes) / rate)
 
     def _write(self, line: str) -> None:
         assert self._stream is not None

@@ -9,7 +9,7 @@ import time
 from typing import List, Optional, Tuple
 
 from ..errors import Error
-from . import asking, digests, sieve, talk
+from . import asking, digests, sieve, tails, talk
 from .facts import READ, REFUSED, Facts, Stamp, Task, failed, stamp
 
 # A file that was written so short a time ago may change once more without other times: those of most disks step every few milliseconds,
@@ -63,7 +63,7 @@ def _read(task: Task, deadline: float) -> Facts:
         if not stat.S_ISREG(begun.st_mode):
             return Facts(task, {**stamp(begun)._asdict(), "settled": 0}, other="no file")
         facts = Facts(task, {**stamp(begun)._asdict(), "settled": int(settled(stamp(begun), now))})
-        facts.other = sieve.passed_over(_head(descriptor), task.path) or ""
+        facts.other = sieve.passed_over(digests.read(descriptor, sieve.HEAD_BYTES), task.path) or ""
         if not facts.other:
             _fill(facts, descriptor, deadline)
         if stamp(os.fstat(descriptor)) != stamp(begun) or stamp(os.stat(task.path)) != stamp(begun):
@@ -89,16 +89,6 @@ def wait_until_settled(seen: Stamp) -> None:
         time.sleep(1.1 * _step(seen) / SECOND)
 
 
-def _head(descriptor: int) -> bytes:
-    head = b""
-    while len(head) < sieve.HEAD_BYTES:
-        more = os.pread(descriptor, sieve.HEAD_BYTES - len(head), len(head))
-        if not more:
-            break
-        head += more
-    return head
-
-
 def _fill(facts: Facts, descriptor: int, deadline: float) -> None:
     """The program's answers, and the digests."""
     size = facts.columns["size"]
@@ -107,14 +97,16 @@ def _fill(facts: Facts, descriptor: int, deadline: float) -> None:
     span: Optional[Tuple[int, int]] = None
     try:
         with talk.Talk(descriptor, asking.options(size, program.option), deadline) as asked:
-            before, behind = asking.ask(asked, facts, program.path)
+            report = asking.begin(asked)
+            taken = digests.Digesting(descriptor, size, deadline)
+            before, behind = asking.ask(asked, facts, report)
         facts.columns["state"] = READ
         span = (before, size - behind) if facts.columns["traces"] else None
     except talk.LoadRefused as refusal:
         facts.columns.update(state=REFUSED, refusal=refusal.code, refusal_text=refusal.text, hint=refusal.hint)
         if refusal.code == "L14":
-            facts.columns.update(asking.trailing(descriptor, size, refusal.hint))
-    facts.columns.update(digests.of(descriptor, size, span, deadline)._asdict())
+            facts.columns.update(tails.of_cut(descriptor, size, refusal.hint, asking.options(size, program.option), deadline))
+    facts.columns.update(taken.end(span)._asdict())
 
 
 def digest(path: bytes) -> Optional[str]:

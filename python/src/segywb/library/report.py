@@ -16,7 +16,7 @@ from .outcomes import DONE_ALREADY
 from .page import Section, bars, folded, page, section, shown, table
 from .progress import bytes_told
 from .ranges import ranges, sizes
-from .schema import NoLibrary
+from .schema import NoLibrary, columns
 
 FILES = 20
 GROUPS = 200
@@ -136,14 +136,15 @@ class Report:
 
     def _tails(self) -> Section:
         parts, whole = [], 0
+        traces = "trailing_traces" if "trailing_traces" in columns(self._database) else "NULL"  # of a database that an earlier package made
         for zeros, title in ((1, "zeros alone"), (0, "other bytes: junk, or the beginning of a trace that was cut off")):
             where = f"FROM file WHERE {HERE} AND trailing_bytes > 0 AND trailing_zeros = {zeros}"
             count = self._one(f"SELECT count(*) {where}")
-            rows = self._rows(f"SELECT path, trailing_bytes {where} ORDER BY path LIMIT {GROUPS}")
+            rows = self._rows(f"SELECT path, trailing_bytes, {traces} {where} ORDER BY path LIMIT {GROUPS}")
             whole += count
             if count:
-                parts.append(folded(f"{title}: {_most(count, GROUPS)}", table(("file", "bytes"), rows)))
-        return section("Bytes behind the last whole trace", f"{whole:,} files", *(parts or [table((), ())]))
+                parts.append(folded(f"{title}: {_most(count, GROUPS)}", table(("file", "bytes", "of them read as traces"), rows)))
+        return section("Bytes behind the last sound trace", f"{whole:,} files", *(parts or [table((), ())]))
 
     def _histograms(self) -> Section:
         formats = [(f"{code} ({answers.FORMATS.get(code, 'unknown')})", count) for code, count in sorted(self._counts("format"))]
@@ -210,10 +211,10 @@ class Report:
     def table(self) -> Iterator[Sequence[Any]]:
         """A row for each file, with a column for each code of a problem, behind a row of the names."""
         codes = [code for code, in self._rows("SELECT DISTINCT code FROM problem ORDER BY length(code), code")]
-        columns = [row[1] for row in self._rows("PRAGMA table_info (file)") if row[1] not in ("id", "root", "settled", "outline")]
-        yield [*columns, *codes]
+        names = [name for name in columns(self._database) if name not in ("id", "root", "settled", "outline")]
+        yield [*names, *codes]
         counts = "".join(", (SELECT count FROM problem WHERE problem.file = file.id AND code = ?)" for _ in codes)
-        yield from self._database.execute(f"SELECT {', '.join(columns)}{counts} FROM file ORDER BY path", codes)
+        yield from self._database.execute(f"SELECT {', '.join(names)}{counts} FROM file ORDER BY path", codes)
 
 
 def _most(count: int, most: int = FILES, which: str = "first") -> str:

@@ -75,7 +75,7 @@ class Scan:
         store.unlisted(self._database, folder, trouble, self.number)
 
     def run(self, found: Iterator[Found]) -> Counts:
-        """Looks at every file, and reads what is to be read. What is found comes to the database file by file."""
+        """Looks at every file, and reads what is to be read. What is found meanwhile comes to the database in one transaction."""
         looking = True
         while looking or len(self._waiting) or self._crew.busy:
             if looking:
@@ -83,8 +83,7 @@ class Scan:
             while len(self._waiting) and self._crew.idle():
                 self._crew.give(self._waiting.chunk())
             hurry = looking or not self._crew.busy
-            for facts in self._crew.gather(0.0 if hurry else PAUSE_SECONDS):
-                self._put(facts)
+            self._put(self._crew.gather(0.0 if hurry else PAUSE_SECONDS))
             self._waiting.again(self._crew.back)
             self._crew.back = []
             self._progress.show(self._waiting.files, self._waiting.bytes, self.counts.unchanged, looking)
@@ -106,17 +105,19 @@ class Scan:
                 self._waiting.add(one.task)
         return bool(some)
 
-    def _put(self, facts: Facts) -> None:
-        if facts.missing and facts.task.root:  # it went away since its folder was listed: the sweep says so of its row
+    def _put(self, found: List[Facts]) -> None:
+        for facts in found:
             self._progress.done(facts.task.size)
+        # One that went away since its folder was listed has no row to be written: the sweep says so of the row that there is.
+        found = [facts for facts in found if not (facts.missing and facts.task.root)]
+        if not found:
             return
-        taken, number = store.put(self._database, facts, self.number)
-        (self._files if taken else self._others).add(number)
-        if taken:
-            self.counts.states[facts.columns["state"]] += 1
-        else:
-            self.counts.others += 1
-        self._progress.done(facts.task.size)
+        for facts, (taken, number) in zip(found, store.put(self._database, found, self.number)):
+            (self._files if taken else self._others).add(number)
+            if taken:
+                self.counts.states[facts.columns["state"]] += 1
+            else:
+                self.counts.others += 1
 
     # ---- what is there no more
 

@@ -5,12 +5,13 @@ from __future__ import annotations
 import os
 import sqlite3
 from contextlib import contextmanager
-from typing import Callable, Iterator
+from typing import Callable, Iterator, List
 from urllib.parse import quote
 
 from ..answers import MEANINGS
 
 VERSION = 1
+LATER_COLUMNS = ("trailing_traces",)
 APPLICATION = 0x53474C42  # "SGLB", so that `file` and this package know such a database
 WAIT_SECONDS = 120.0
 
@@ -76,6 +77,7 @@ CREATE TABLE file (
     alphabet TEXT,
     trailing_bytes INTEGER,
     trailing_zeros INTEGER,
+    trailing_traces INTEGER,
     program TEXT,
     scan INTEGER NOT NULL REFERENCES scan (id),
     read_at TEXT NOT NULL
@@ -194,6 +196,7 @@ def create(path: str) -> sqlite3.Connection:
                 _make(database)
             if database.execute("PRAGMA application_id").fetchone()[0] == APPLICATION:  # a later package may know more codes
                 database.executemany("INSERT OR IGNORE INTO meaning VALUES (?, ?)", MEANINGS.items())
+                _add_columns(database)
                 for statement in _statements(APPEND_ONLY):  # those that an earlier package did not make
                     database.execute(statement)
     except sqlite3.Error as error:
@@ -207,6 +210,19 @@ def _make(database: sqlite3.Connection) -> None:
         database.execute(statement)
     database.execute(f"PRAGMA user_version = {VERSION}")
     database.execute(f"PRAGMA application_id = {APPLICATION}")
+
+
+def _add_columns(database: sqlite3.Connection) -> None:
+    """Columns of `file` that an earlier package did not make; an earlier one passes them over."""
+    there = columns(database)
+    for name in LATER_COLUMNS:
+        if name not in there:
+            database.execute(f"ALTER TABLE file ADD COLUMN {name} INTEGER")
+
+
+def columns(database: sqlite3.Connection, where: str = "main") -> List[str]:
+    """The names of the columns of `file`."""
+    return [row[1] for row in database.execute(f"PRAGMA {where}.table_info (file)")]
 
 
 def _statements(text: str) -> Iterator[str]:

@@ -9,7 +9,7 @@ import socket
 import sqlite3
 import time
 import uuid
-from typing import Any, List, NamedTuple, Optional, Tuple
+from typing import Any, List, NamedTuple, Optional, Sequence, Tuple
 
 from .. import __version__
 from .facts import FAILED, Facts, Stamp
@@ -22,7 +22,7 @@ FILLED = (
     "state", "refusal", "refusal_text", "hint", "trouble", "size", "modified", "changed", "inode", "settled", "sha256", "md5", "trace_md5",
     "byte_order", "revision", "format", "fixed", "extensions", "blocks", "trailer", "traces", "samples", "interval", "inlines", "crosslines", "least_length",
     "greatest_length", "least_inline", "greatest_inline", "least_crossline", "greatest_crossline", "least_offset", "greatest_offset", "least_x",
-    "greatest_x", "least_y", "greatest_y", "least_scalar", "greatest_scalar", "outline", "alphabet", "trailing_bytes", "trailing_zeros", "program",
+    "greatest_x", "least_y", "greatest_y", "least_scalar", "greatest_scalar", "outline", "alphabet", "trailing_bytes", "trailing_zeros", "trailing_traces", "program",
 )
 FILE_COLUMNS = ("path", "name", "root", "gone", "scan", "read_at", *FILLED)
 _SCAN = "mark, begun, folders, program, program_sha256, package, user, host"
@@ -103,13 +103,16 @@ def end(database: sqlite3.Connection, scan: int) -> None:
         database.execute("UPDATE scan SET ended = ? WHERE id = ?", (now(), scan))
 
 
-def put(database: sqlite3.Connection, facts: Facts, scan: int) -> Tuple[bool, int]:
-    """Writes what was found of a file, in one transaction: whether it is one of SEG-Y, and its number."""
-    path = text_of(facts.task.path)
+def put(database: sqlite3.Connection, found: Sequence[Facts], scan: int) -> List[Tuple[bool, int]]:
+    """Writes what was found of some files, in one transaction: of each whether it is one of SEG-Y, and its number."""
     with transaction(database):
-        if facts.other:
-            return False, _put_other(database, path, facts, scan)
-        return True, _put_file(database, path, facts, scan)
+        return [_put(database, text_of(facts.task.path), facts, scan) for facts in found]
+
+
+def _put(database: sqlite3.Connection, path: str, facts: Facts, scan: int) -> Tuple[bool, int]:
+    if facts.other:
+        return False, _put_other(database, path, facts, scan)
+    return True, _put_file(database, path, facts, scan)
 
 
 def _name(path: str) -> str:

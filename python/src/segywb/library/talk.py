@@ -5,16 +5,18 @@ from __future__ import annotations
 import functools
 import os
 import select
+import signal
 import subprocess
 import time
-from typing import Any, Dict, Iterator, List, NamedTuple, Optional, Sequence
+from typing import Any, Dict, Iterator, List, NamedTuple, Optional, Sequence, Tuple
 
 from .. import program
 from ..errors import ProgramNotFound, hint_of, read_with
 from .digests import Slow
 
 
-READ_BYTES = 1 << 16
+READ_BYTES = 1 << 14
+_REFUSED = b"load refused "
 
 
 class Trouble(Exception):
@@ -75,18 +77,11 @@ class Talk:
 
     def __init__(self, descriptor: int, options: Sequence[str], deadline: float) -> None:
         os.set_inheritable(descriptor, True)
+        self.descriptor = descriptor
         self._deadline = deadline
         self._name = f"/proc/self/fd/{descriptor}"
-        words = [found().path, self._name, "--session", *options]
-        try:
-            # Descriptors of Python are closed in the program by themselves, so that only this one is left to it.
-            self._process = subprocess.Popen(
-                words, stdin=subprocess.PIPE, stdout=subprocess.PIPE, stderr=subprocess.PIPE, close_fds=False, env=_environment()
-            )
-        except OSError as error:
-            raise ProgramNotFound(f"cannot run {words[0]}: {error}") from error
-        assert self._process.stdin is not None and self._process.stdout is not None and self._process.stderr is not None
-        self._lines, self._answers, self._errors = self._process.stdin, self._process.stdout, self._process.stderr
+        self._number, self._lines, self._answers, self._errors = _started([found().path, self._name, "--session", *options])
+        self._status: Optional[int] = None
         self._poll = select.poll()
         self._poll.register(self._answers, select.POLLIN)
         self._buffer, self._at = b"", 0
@@ -95,20 +90,27 @@ class Talk:
         return self
 
     def __exit__(self, *why: object) -> None:
-        if self._process.poll() is None:
-            self._process.kill()
-        self._process.wait()
-        for pipe in (self._lines, self._answers, self._errors):
+        if self._status is None:  # it waits for its next line
             try:
-                pipe.close()
-            except OSError:
+                os.kill(self._number, signal.SIGKILL)
+            except ProcessLookupError:
                 pass
+            self._wait()
+        for pipe in (self._lines, self._answers, self._errors):
+            if pipe >= 0:
+                os.close(pipe)
+
+    def _wait(self) -> int:
+        try:
+            self._status = os.waitstatus_to_exitcode(os.waitpid(self._number, 0)[1])
+        except ChildProcessError:  # where signals of children are ignored nobody hears how one ended
+            self._status = 0
+        return self._status
 
     def send(self, lines: Sequence[str]) -> None:
         """Lines that are few enough to stand in a pipe together with their answers, or whose answers are long and read at once."""
         try:
-            self._lines.write("".join(f"{line}\n" for line in lines).encode())
-            self._lines.flush()
+            os.write(self._lines, "".join([f"{line}\n" for line in lines]).encode())
         except OSError:
             pass  # it has ended, and its answers tell why
 
@@ -116,7 +118,7 @@ class Talk:
         """Reads what has come meanwhile. A program that says nothing until the time is over is given up."""
         if not self._poll.poll(max(0.0, 1000 * (self._deadline - time.monotonic()))):
             raise Slow
-        data = os.read(self._answers.fileno(), READ_BYTES)
+        data = os.read(self._answers, READ_BYTES)
         if not data:
             raise self._ended()
         self._buffer = self._buffer[self._at:] + data
@@ -142,18 +144,21 @@ class Talk:
 
     def first(self) -> str:
         """The first line of the next answer, and the only one that is wanted."""
-        return next(iter(list(self.answer())), "")
+        begin, end = self._at, self._buffer.find(b"\n\n", self._at)
+        if end < 0 or self._buffer.startswith((b"\n", _REFUSED), begin):
+            return next(iter(list(self.answer())), "")
+        self._at = end + 2  # as nearly always: it is there, and whole
+        return self._buffer[begin:end].decode("utf-8", "replace").split("\n", 1)[0]
 
     def one(self) -> str:
         """The same, where a refusal is no answer."""
         return accepted(self.first())
 
     def _told(self) -> str:
-        try:
-            self._lines.close()
-        except OSError:
-            pass
-        return self._errors.read().decode("utf-8", "replace")
+        """All that it has told on standard error, once it has ended: it does so where no line follows."""
+        lines, self._lines = self._lines, -1
+        os.close(lines)
+        return b"".join(iter(lambda: os.read(self._errors, READ_BYTES), b"")).decode("utf-8", "replace")
 
     def _refusal(self, text: str) -> Exception:
         told = self._told()
@@ -164,8 +169,30 @@ class Talk:
 
     def _ended(self) -> Exception:
         told = self._told().strip().replace(self._name, "it")
-        status = self._process.wait()
+        status = self._wait()
         return Trouble(f"the program ended by signal {-status}" if status < 0 else told or f"the program ended with status {status}")
+
+
+def _started(words: List[str]) -> Tuple[int, int, int, int]:
+    """The number of a program that was started, and the ends of three pipes: of its lines, its answers and its errors.
+
+    Started so, and not by `subprocess`, a file takes a tenth of a millisecond less. Descriptors of
+    Python are closed in the program by themselves, but for those that are made to be left to it.
+    """
+    pipes = [os.pipe() for _ in range(3)]
+    theirs = [pipes[0][0], pipes[1][1], pipes[2][1]]
+    ours = [pipes[0][1], pipes[1][0], pipes[2][0]]
+    try:
+        actions = [(os.POSIX_SPAWN_DUP2, pipe, at) for at, pipe in enumerate(theirs)]
+        number = os.posix_spawn(words[0], words, _environment(), file_actions=actions, setsigdef=[signal.SIGPIPE, signal.SIGXFSZ])
+    except OSError as error:
+        for pipe in ours:
+            os.close(pipe)
+        raise ProgramNotFound(f"cannot run {words[0]}: {error}") from error
+    finally:
+        for pipe in theirs:
+            os.close(pipe)
+    return number, ours[0], ours[1], ours[2]
 
 
 def accepted(text: str) -> str:

@@ -151,17 +151,27 @@ export function draw(canvas, view, layers, axes) {
       const [x0, x1, y0, y1] = [across(plot, view, part[0]), across(plot, view, part[1]), down(plot, view, part[2]), down(plot, view, part[3])];
       for (const picture of pictures[at] || []) pen.drawImage(picture, x0, y0, x1 - x0, y1 - y0);
     }
+    for (const [from, to] of side.marks) framed(pen, plot, across(plot, view, from), across(plot, view, to));
     pen.restore();
     frame(pen, plot, view, side, axes, colours);
   });
   return places;
 }
 
+// Traces that are marked, from one place to another: a frame, so that their colours stay what they are.
+function framed(pen, plot, from, to) {
+  const wide = Math.max(to - from, 3);
+  pen.fillStyle = css("--mark");
+  pen.fillRect(from, plot.y, wide, 5);
+  pen.fillRect(from, plot.y + plot.tall - 5, wide, 5);
+  for (const x of [from, from + wide - 1.5]) pen.fillRect(x, plot.y, 1.5, plot.tall);
+}
+
 function frame(pen, plot, view, side, axes, colours) {
   pen.strokeStyle = colours.line;
   pen.lineWidth = 1;
   pen.strokeRect(plot.x - 0.5, plot.y - 0.5, plot.wide + 1, plot.tall + 1);
-  times(pen, plot, view, axes, colours);
+  if (!axes.empty) times(pen, plot, view, axes, colours);
   numbers(pen, plot, view, side, axes, colours);
   side.headers.forEach((header, at) => band(pen, plot, view, side, header, plot.y - AXIS - (at + 1) * BAND, colours));
   if (side.title) {

@@ -4,7 +4,7 @@ import { ask } from "./api.js";
 import { at, fill, make, many, tabs } from "./dom.js";
 import { offer } from "./offers.js";
 import * as plots from "./plots.js";
-import { part, store } from "./store.js";
+import { part, store, whenSpotted } from "./store.js";
 import { goTo } from "./table.js";
 
 const room = at("plot-graph");
@@ -47,6 +47,7 @@ async function draw() {
   const drag = at("graph-drag").value;
   const picture = view.fields ? plots.series(view, points, drag, heights) : plots.cloud(view, drag);
   await plots.draw(room, picture);
+  if (store.spot && view.fields) await plots.band(room, store.spot);
   fill(at("graph-caption"), caption());
   document.body.dataset.graphVersion = String(view.version);
   document.body.dataset.graphKind = mode;
@@ -192,6 +193,7 @@ export function start() {
   at("graph-drag").addEventListener("change", () => { if (view) draw(); });
   at("graph-all").addEventListener("click", whole);
   window.addEventListener("desk-layout", () => { if (store.ready) show(); });
+  whenSpotted((where) => { if (shown() && view && view.fields) plots.band(room, where); });
   window.matchMedia("(prefers-color-scheme: dark)").addEventListener("change", () => { if (view && shown()) draw(); });
   part(show);
 }

@@ -3,7 +3,7 @@
 import { ask } from "./api.js";
 import { at, fill, make, many, tabs } from "./dom.js";
 import * as plots from "./plots.js";
-import { part, store } from "./store.js";
+import { part, store, whenSpotted } from "./store.js";
 import { goTo } from "./table.js";
 import { offer } from "./offers.js";
 
@@ -56,9 +56,25 @@ async function drawAll(got) {
   await plots.draw(now, picture(got, got.now), beside());
   if (beside() && got.was) await plots.draw(was, picture(got, got.was), true);
   fill(at("caption"), caption(got));
+  if (store.spot) await spotted();
   document.body.dataset.mapVersion = String(got.version);
   document.body.dataset.mapKind = kind;
   if (!bound) listen();
+}
+
+// The slots of the lines from one to another, or the one behind the last line before them where they have none of their own.
+function slotsOf({ first, last }, low, high) {
+  const some = first.map((_, slot) => slot).filter((slot) => first[slot] !== null && (high === null || first[slot] <= high) && (low === null || last[slot] >= low));
+  const before = first.findLastIndex((one, slot) => one !== null && last[slot] < low);
+  return some.length ? [some[0] - 0.5, some[some.length - 1] + 0.5] : [before + 0.5, before + 1.5];
+}
+
+// What a problem leads to, on the map that is shown.
+function spotted() {
+  if (!view || view.refused || view.kind === "none" || kind === "histogram" || !now._fullLayout) return undefined;
+  const { boxes, x, y } = store.spot;
+  if (!isMap()) return plots.spot(now, [], x.map((one, index) => [one, y[index]]));
+  return plots.spot(now, boxes.map(([i0, i1, x0, x1]) => [...slotsOf(view.right, x0, x1), ...slotsOf(view.down, i0, i1)]), []);
 }
 
 function picture(got, drawn) {
@@ -306,6 +322,7 @@ export function start() {
     const box = Object.fromEntries(["i0", "i1", "x0", "x1"].map((name) => [name, at("box").elements[name].value]));
     select(box).catch((error) => { at("told").textContent = error.message; });
   });
+  whenSpotted(spotted);
   at("whole").addEventListener("change", show);
   for (const id of ["map-colour", "map-how", "map-place"]) at(id).addEventListener("change", show);
   at("map-scale").addEventListener("change", () => { if (view) drawAll(view); });

@@ -43,6 +43,24 @@ export function linesOf(what, field, value, step, formula) {
   return made;
 }
 
+// What the traces of a selection have in common, as the program finds them: the traces among which they are chosen, and the condition.
+export function conditionOf({ ask: asked, query }) {
+  const some = query.names ? query.names.split(" ") : [];
+  const [lows, highs] = [query.low, query.high].map((one) => (one === undefined ? [] : one.split(" ").map(Number)));
+  const ends = asked === "select" ? [["inline", query.i0, query.i1], ["crossline", query.x0, query.x1]].map(([name, ...both]) => [name, ...both.map(Number).sort((one, other) => one - other)])
+    : some.map((name, at) => [name, Math.ceil(lows[at]), Math.floor(highs[at])]);
+  const text = ends.map(([name, low, high]) => (low === high ? `${name} = ${BigInt(low)}` : `${name} >= ${BigInt(low)} and ${name} <= ${BigInt(high)}`)).join(" and ");
+  const most = store.state ? store.state.traces : query.last;
+  return [query.first ? `${Math.min(query.first, most)} ${Math.min(query.last, most)}` : "all", text];
+}
+
+// The same repair as one line: all traces that meet the condition.
+function foundLines(what, field, value, step, formula) {
+  const [among, text] = conditionOf(source);
+  const words = { set: `set ${among} ${field} ${value}`, renumber: `renumber ${among} ${field} ${value} ${step}`, compute: `compute ${among} ${field} ${formula}`, delete: `delete ${among}` }[what];
+  return [`${words} where ${text}`];
+}
+
 const names = () => (store.words ? store.words.names.map((one) => one.name) : []);
 
 // Offers what can be done to the traces of an answer. What was asked is told by `from`: the question and its words, the field and the number that are
@@ -56,11 +74,12 @@ export function offer(from, got) {
   const room = at("offers");
   at(from.room).append(room);
   room.hidden = false;
-  if (!count || !got.all) {
-    fill(room, count ? `${many(count, "trace")} in too many runs: select fewer.` : `No traces in this ${from.shape}.`, close());
+  if (!count) {
+    fill(room, `No traces in this ${from.shape}.`, close());
     return;
   }
-  const what = make("select", { "aria-label": "what to do", id: "offer-what" }, ...["renumber", "set", "compute", "swap", "delete"].map((one) => make("option", {}, one)));
+  const found = make("input", { type: "checkbox", id: "offer-found", checked: !got.all, disabled: !got.all });
+  const what = make("select", { "aria-label": "what to do", id: "offer-what" }, ...["renumber", "set", "compute", ...(got.all ? ["swap"] : []), "delete"].map((one) => make("option", {}, one)));
   const field = make("input", { "aria-label": "field", id: "offer-field", list: "offer-fields", size: "14", spellcheck: "false", value: from.field });
   const value = make("input", { "aria-label": "first number", id: "offer-value", size: "9", value: String(from.value) });
   const step = make("input", { "aria-label": "step", id: "offer-step", size: "5", value: "0" });
@@ -71,20 +90,22 @@ export function offer(from, got) {
   const fields = make("datalist", { id: "offer-fields" }, ...[...new Set([...Object.keys(store.bound), ...names()])].map((name) => make("option", { value: name })));
   const parts = make("span", {}, field, make("label", {}, " from ", value), make("label", {}, " step ", step), make("label", {}, " = ", formula), make("label", {}, " with ", other));
   const form = make("form", { class: "bar", on: { submit: (event) => { event.preventDefault(); apply(); } } },
-    make("strong", { id: "offer-count" }, many(count, "trace")), what, parts, fields, run,
+    make("strong", { id: "offer-count" }, many(count, "trace")), what, parts, fields, make("label", { title: "One line for all traces that meet the condition, in place of one for each run of them" }, found, " apply to all found (where ..)"), run,
     make("button", { type: "button", on: { click: () => goTo(runs[0][0]) } }, "Show in the table"), close());
   const made = () => {
+    const linesFor = found.checked && what.value !== "swap" ? foundLines : linesOf;
     const both = [field, other].map((one) => one.value.trim());
     if (what.value === "swap") return !overlap(...both) ? linesOf("swap", both[0], 0, 0, both[1]) : null;
-    if (what.value === "compute") return formula.value.trim() && !/[\r\n]/.test(formula.value) ? linesOf("compute", field.value.trim(), 0, 0, formula.value.trim()) : null;
+    if (what.value === "compute") return formula.value.trim() && !/[\r\n]/.test(formula.value) ? linesFor("compute", field.value.trim(), 0, 0, formula.value.trim()) : null;
     try {
-      return linesOf(what.value, field.value.trim(), BigInt(value.value.trim() || "0"), BigInt(step.value.trim() || "0"));
+      return linesFor(what.value, field.value.trim(), BigInt(value.value.trim() || "0"), BigInt(step.value.trim() || "0"));
     } catch {
       return null;
     }
   };
   preview = () => {
     parts.hidden = what.value === "delete";
+    found.parentElement.hidden = what.value === "swap";
     value.parentElement.hidden = what.value === "compute" || what.value === "swap";
     other.parentElement.hidden = what.value !== "swap";
     step.parentElement.hidden = what.value !== "renumber";
@@ -113,7 +134,7 @@ export function offer(from, got) {
       room.hidden = true;
     }
   };
-  for (const one of [what, field, value, step, formula, other]) one.addEventListener("input", preview);
+  for (const one of [what, field, value, step, formula, other, found]) one.addEventListener("input", preview);
   fill(room, form, shown);
   preview();
 }
@@ -123,7 +144,7 @@ export function start() {
   part(async () => {
     if (at("offers").hidden || version === store.version) return;
     const got = await ask(source.ask, source.query);
-    if (!got.count || !at("offer-run")) offer(source, got);
+    if (!got.count || !got.all || !at("offer-run")) offer(source, got);
     else {
       ({ runs, count, version } = got);
       preview();

@@ -205,6 +205,19 @@ function valueAt(object, path) {
   return path.replace(/\[(\d)\]/g, ".$1").split(".").reduce((found, key) => (found === undefined || found === null ? undefined : found[key]), object);
 }
 
+const stroke = (width) => ({ color: css("--mark"), width });
+const ring = (x, y) => ({ type: "circle", xsizemode: "pixel", ysizemode: "pixel", xanchor: x, yanchor: y, x0: -9, x1: 9, y0: -9, y1: 9, line: stroke(3) });
+
+// The traces of a problem: boxes of slots on a map, rings around places. In its place stands nothing.
+export const spot = (room, found, places) => Plotly.relayout(room, {
+  shapes: [...found.map(([x0, x1, y0, y1]) => ({ type: "rect", x0, x1, y0, y1, line: stroke(3) })), ...places.map(([x, y]) => ring(x, y))],
+});
+
+// The traces from one to another on a graph of fields against the trace.
+export const band = (room, { first, last }) => Plotly.relayout(room, {
+  shapes: first ? [{ type: "rect", xref: "x", yref: "paper", x0: first - 0.5, x1: last + 0.5, y0: 0, y1: 1, fillcolor: css("--mark"), opacity: 0.3, line: stroke(2) }] : [],
+});
+
 export const cursor = (room, row, column) => Plotly.relayout(room, {
   shapes: row === null ? [] : [{ type: "rect", x0: column - 0.5, x1: column + 0.5, y0: row - 0.5, y1: row + 0.5, line: { color: css("--text"), width: 3 } }],
 });

@@ -4,7 +4,7 @@ import { ask, picture } from "./api.js";
 import * as canvas from "./canvas.js";
 import { runLine } from "./command.js";
 import { at, fill, many } from "./dom.js";
-import { part, store } from "./store.js";
+import { part, store, whenSpotted } from "./store.js";
 import { columns, goTo } from "./table.js";
 
 const room = at("plot-section");
@@ -13,6 +13,7 @@ const SETTLE = 60; // milliseconds behind the last movement, until a sharper pic
 const TITLES = { was: "As it was loaded", now: "Now", difference: "Now less as it was loaded" };
 const PAPERS = { wiggles: null, both: "#ffffff", density: null };
 let auto = true;
+let sought = 0; // a trace whose section is wanted
 let told = null; // what the server tells of the section
 let view = null; // the part that is looked at: traces and samples, in fractions
 let near = null; // the sharpest picture
@@ -28,11 +29,20 @@ export const shown = () => !at("section").dataset.folded;
 // ---- what is asked
 
 function which() {
-  if (auto) return { field: "auto" };
+  const trace = sought ? { trace: sought } : {};
+  if (auto) return { field: "auto", ...trace };
   const of = at("section-of").value;
-  if (of === "traces") return { first: at("section-first").value || 1, last: at("section-last").value || 0 };
-  return { field: of === "field" ? at("section-field").value.trim() : of, value: at("section-value").value.trim() };
+  if (of === "traces") return { first: at("section-first").value || 1, last: at("section-last").value || 0, ...trace };
+  return { field: of === "field" ? at("section-field").value.trim() : of, value: at("section-value").value.trim(), ...trace };
 }
+
+// To a trace that a problem has: the section that has it is shown, and all of it where the trace is not in the part that is looked at.
+function spotted({ first }) {
+  sought = first;
+  show();
+}
+
+const marked = () => (store.spot && store.spot.first ? { marked: `${store.spot.first} ${store.spot.last}` } : {});
 
 const side = () => (at("section-side").value === "now" && store.compare ? "both" : at("section-side").value);
 
@@ -62,8 +72,11 @@ export async function show() {
   try {
     do {
       again = false;
-      const got = await picture("section", { ...which(), ...look(), ...window_() });
-      if (!again || !near) took(got);
+      const asked = which();
+      const got = await picture("section", { ...asked, ...look(), ...marked(), ...window_() });
+      // An answer to what is asked no more would write its line over the one that was chosen since.
+      const still = JSON.stringify(asked) === JSON.stringify(which());
+      if (!again || (still && !near)) took(got, asked.trace);
       room.classList.remove("busy");
     } while (again || told.read < 1);
     at("section-said").textContent = "";
@@ -83,11 +96,11 @@ function fresh() {
   return show();
 }
 
-function took([head, bytes]) {
+function took([head, bytes], trace) {
   const same = told && ["field", "value", "first", "last", "traces", "samples"].every((name) => told[name] === head[name]);
   if (!same) view = near = far = null;
   told = head;
-  if (auto) takeOver();
+  if (auto || trace) takeOver();
   if (!view) view = { left: 0, right: Math.max(told.traces, 1), top: 0, bottom: Math.max(told.samples, 1) };
   near = painted(head, bytes);
   if (near.whole) far = near;
@@ -98,6 +111,13 @@ function took([head, bytes]) {
   if (head.read === 1) document.body.dataset.sectionVersion = String(head.version);
   paper.shown = { told: head, bytes, view };
   paint();
+  if (trace) reach(trace, head.sides.flatMap((one) => one.marks));
+}
+
+// What was sought is there: it must lie in the part that is looked at.
+function reach(trace, marks) {
+  if (sought === trace) sought = 0;
+  if (marks.length && !marks.some(([from, to]) => from >= view.left && to <= view.right)) whole();
 }
 
 // What the server chose is shown in the fields.
@@ -146,8 +166,8 @@ function paint() {
     if (!near || !view) return;
     const { head } = near;
     const layers = [far, near].filter((one, index, all) => one && (index === 1 || one !== all[1]));
-    const axes = { start: head.start, step: head.step || 1, unit: head.step ? "time (ms)" : "sample", along: head.along, headers: head.sides[0].headers.length, paper: PAPERS[at("section-style").value],
-      sides: head.sides.map((one) => ({ title: head.sides.length > 1 ? TITLES[one.name] : "", label: one.label, part: one.part, headers: one.headers })) };
+    const axes = { empty: !head.samples, start: head.start, step: head.step || 1, unit: head.step ? "time (ms)" : "sample", along: head.along, headers: head.sides[0].headers.length, paper: PAPERS[at("section-style").value],
+      sides: head.sides.map((one) => ({ title: head.sides.length > 1 ? TITLES[one.name] : "", label: one.label, part: one.part, headers: one.headers, marks: one.marks })) };
     places = canvas.draw(paper, view, layers, axes);
     document.body.dataset.sectionFrames = String(Number(document.body.dataset.sectionFrames || 0) + 1);
   });
@@ -155,6 +175,7 @@ function paint() {
 
 function caption() {
   const { field, value, whole, every, samples, step, start, traces, sides } = told;
+  if (store.state && !store.state.traces) return "The file has no traces.";
   const [first] = sides;
   const of = field ? `Where ${field} is ${value}` : `Traces ${told.first.toLocaleString("en")} to ${told.last.toLocaleString("en")}`;
   const said = [`${of}: ${many(whole, "trace")} of ${many(samples, "sample")}${step ? `, ${start.toLocaleString("en")} to ${(start + Math.max(samples - 1, 0) * step).toLocaleString("en")} ms` : ""}.`];
@@ -247,9 +268,13 @@ function traceAt({ index, trace }) {
   return one.trace[column] === undefined ? null : { trace: one.trace[column], label: one.label[column], name: one.name };
 }
 
-function click(place) {
+// A trace of the side "as it was loaded" leads to where it stands now.
+async function click(place) {
   const found = traceAt(place);
-  if (found && found.name !== "was") goTo(found.trace);
+  if (!found) return;
+  const { trace } = found.name === "was" ? await ask("stands", { trace: found.trace }) : found;
+  if (trace) goTo(trace);
+  else at("section-under").textContent = `Trace ${found.trace} as it was loaded: it is no longer there.`;
 }
 
 let asking = 0;
@@ -313,11 +338,13 @@ function steps() {
   if (told.field && document.activeElement !== at("section-value")) at("section-value").value = told.value;
 }
 
-// A file of shots: its records get the name shot, by a command that is shown.
+// A file of shots (S1): its records and their traces become its lines, by a command that is shown.
 function shots() {
   const found = told.shots;
-  at("section-shots").hidden = !found || found.named;
-  if (found) at("section-shots").firstChild.textContent = `This looks like a file of ${many(found.count, "shot")}: it has no bins, and field records ${found.first} to ${found.last}.`;
+  at("section-shots").hidden = !found;
+  if (!found) return;
+  const records = found.count === 1 ? `one field record, ${found.first}` : `${many(found.count, "field record")}, ${found.first} to ${found.last}`;
+  at("section-shots").firstChild.textContent = `All traces have inline ${found.inline} and crossline ${found.crossline} (S1), as those of shots: ${records}. map shot makes inlines of the records and crosslines of their traces.`;
 }
 
 function line(value) {
@@ -327,14 +354,15 @@ function line(value) {
 }
 
 export function start() {
-  at("section-of").addEventListener("change", () => { kinds(); at("section-value").value = ""; fresh(); });
-  for (const id of ["section-value", "section-field", "section-first", "section-last"]) at(id).addEventListener("change", () => { if (id === "section-field") at("section-value").value = ""; fresh(); });
+  at("section-of").addEventListener("change", () => { auto = false; kinds(); at("section-value").value = ""; fresh(); });
+  for (const id of ["section-value", "section-field", "section-first", "section-last"]) at(id).addEventListener("change", () => { auto = false; if (id === "section-field") at("section-value").value = ""; fresh(); });
   at("section-back").addEventListener("click", () => line(told && told.back));
   at("section-on").addEventListener("click", () => line(told && told.on));
   for (const id of ["section-style", "section-side", "section-percentile", "section-balance", "section-window", "section-reverse", "section-headers"]) at(id).addEventListener("change", () => { kinds(); show(); });
   at("section-scale").addEventListener("change", show);
   at("section-all").addEventListener("click", whole);
-  at("section-map").addEventListener("click", () => runLine("map shot field_record"));
+  at("section-map").addEventListener("click", () => runLine("map shot"));
+  whenSpotted(spotted);
   paper.addEventListener("wheel", wheel, { passive: false });
   paper.addEventListener("pointerdown", drag);
   paper.addEventListener("pointermove", hover);

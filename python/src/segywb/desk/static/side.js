@@ -3,7 +3,7 @@
 import { ask } from "./api.js";
 import { at, fill, make, many, tabs } from "./dom.js";
 import { begin, runScript } from "./command.js";
-import { part, store } from "./store.js";
+import { part, spot, store } from "./store.js";
 import { goTo } from "./table.js";
 
 const PANELS = [["problems", "Problems"], ["numbers", "Numbers"], ["text", "Text"], ["edits", "Edits"]];
@@ -34,8 +34,8 @@ async function problems() {
   const count = got.problems.length;
   if (chosen !== "problems") return;
   at("tab-problems").textContent = `Problems ${count}`;
-  fill(at("panel"), make("p", { id: "problems-said" }, count ? `${many(count, "problem")}. Not every one is an error.` : "No problems found. The survey can still be wrong."),
-    codes.length ? make("table", {}, make("tbody", {}, ...codes.map((code) => problemRow(code, now[code])))) : null, make("div", { id: "problem-window" }));
+  fill(at("panel"), make("p", { id: "problems-said" }, count ? `${many(count, "problem")}. Not every one is an error.` : traces ? "No problems found. The survey can still be wrong." : "No problems found: the file has no traces."),
+    codes.length ? make("table", {}, make("tbody", {}, ...codes.map((code) => problemRow(code, now[code])))) : null, make("p", { id: "spot-said", "aria-live": "polite" }), make("div", { id: "problem-window" }));
   if (open && now[open]) await problemWindow(now[open]);
 }
 
@@ -54,7 +54,31 @@ function offerLook(version, traces) {
 }
 
 const told = (one) => (one ? one.count : 0);
-const leads = (run) => (run.trace ? make("button", { class: "link", type: "button", on: { click: () => goTo(run.trace) } }, run.text) : run.text);
+const leads = (run) => (run.trace || run.gap ? make("button", { class: "link", type: "button", on: { click: () => lead(run).catch((error) => say(error.message)) } }, run.text) : run.text);
+const puts = (line) => make("button", { class: "link line", type: "button", "aria-label": `put into the command line: ${line}`, on: { click: () => begin(line) } }, line);
+
+// What is marked, in words, and what takes the marks away.
+const nothing = () => ({ version: store.version, first: 0, last: 0, boxes: [], x: [], y: [] });
+function say(...parts) {
+  const room = at("spot-said");
+  if (room) fill(room, ...parts);
+}
+const unmark = () => make("button", { class: "link", type: "button", id: "spot-none", on: { click: () => { spot(nothing()); say(); } } }, "Take the marks away");
+
+// To the traces of a run, or to the lines that are missing: all that is open shows them, and the page stays where it is.
+async function lead(run) {
+  if (run.gap) {
+    const [name, low, high] = run.gap;
+    spot({ ...nothing(), boxes: [name === "inline" ? [low, high, null, null] : [null, null, low, high]] });
+    say(`Marked on the map: ${run.text}. `, unmark());
+    return;
+  }
+  const last = run.last || run.trace;
+  spot(await ask("spot", { first: run.trace, last }));
+  await goTo(run.trace, true);
+  say(`Marked on the map, in the section, on the graph and in the table, where these are open: ${last > run.trace ? `traces ${run.trace} to ${last}` : `trace ${run.trace}`}. `,
+    make("button", { class: "link", type: "button", id: "spot-row", on: { click: () => goTo(run.trace) } }, "To its row"), ". ", unmark());
+}
 
 // A group: how many have it, what it means, where it begins, and a line for the command line.
 function problemRow(code, one) {
@@ -77,7 +101,7 @@ function where(one) {
 async function problemWindow(one) {
   const more = one.runs - one.first.length;
   const said = one.runs ? `${one.code}: ${many(one.runs, "run")}` : `${one.code}: ${one.facts || one.meaning}`;
-  fill(at("problem-window"), make("p", {}, said), make("ul", { class: "lines" }, ...one.first.map((run) => make("li", {}, leads(run)))),
+  fill(at("problem-window"), make("p", {}, said), make("ul", { class: "lines" }, ...one.first.map((run) => make("li", {}, leads(run), ...run.lines.map(puts)))),
     more > 0 ? make("p", {}, `.. and ${more.toLocaleString("en")} more runs`) : null, make("div", { id: "fault-window" }));
   if (one.single) await faultWindow(one, 0);
 }

@@ -2,7 +2,7 @@
 
 import { ask, tell } from "./api.js";
 
-export const store = { state: null, version: 0, compare: false, words: null, bound: {}, ready: false };
+export const store = { state: null, version: 0, compare: false, words: null, bound: {}, ready: false, spot: null };
 
 const parts = [];
 let running = false;
@@ -10,8 +10,19 @@ let again = false;
 
 export const part = (does) => parts.push(does);
 
+const marked = [];
+
+export const whenSpotted = (does) => marked.push(does);
+
+// What a problem leads to: traces, and where they lie. It is marked on the map, in the section, on the graph and in the table, until the next edit.
+export function spot(where) {
+  store.spot = where;
+  for (const does of marked) does(where);
+}
+
 export async function refresh() {
   again = true;
+  if (store.spot && store.spot.version !== store.version) store.spot = null;
   delete document.body.dataset.whole;
   if (running) return;
   running = true;

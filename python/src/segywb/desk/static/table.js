@@ -2,7 +2,7 @@
 
 import { ask } from "./api.js";
 import { at, fill, make, many } from "./dom.js";
-import { part, store } from "./store.js";
+import { part, store, whenSpotted } from "./store.js";
 import { begin, runLine, whenFound } from "./command.js";
 
 let names = ["inline", "crossline", "offset", "x", "y", "scalar"];
@@ -56,7 +56,8 @@ function rowOf(row, index) {
   const trace = got.first + index;
   const origin = got.origin[index];
   const moved = origin === 0 ? "new" : origin !== trace ? `was ${origin}` : null;
-  return make("tr", { class: trace === here ? "here" : "", "data-trace": String(trace) },
+  const marked = store.spot && trace >= store.spot.first && trace <= store.spot.last ? " spot" : "";
+  return make("tr", { class: `${trace === here ? "here" : ""}${marked}`.trim(), "data-trace": String(trace) },
     make("th", { scope: "row" }, String(trace), moved ? make("span", { class: "was" }, moved) : null),
     ...row.map((value, column) => cellOf(value, index, column, trace, origin)));
 }
@@ -159,15 +160,18 @@ async function addColumn(name) {
   await show();
 }
 
-// To a trace: the table shows it, with a frame.
-export async function goTo(trace) {
+// To a trace: the table shows it, with a frame. With `stay` the page is not scrolled to it.
+export async function goTo(trace, stay = false) {
   here = trace;
   const size = Number(at("size").value);
   if (!got || trace < got.first || trace >= got.first + got.rows.length) first = Math.max(1, trace - Math.floor(size / 4));
   await show();
   const row = at("table-room").querySelector("tr.here");
-  if (row) row.scrollIntoView({ block: "nearest" });
-  if (row) focusCell(trace - got.first, 0);
+  if (row && stay) at("table-room").scrollTop = row.offsetTop - row.offsetHeight * 2;
+  else if (row) {
+    row.scrollIntoView({ block: "nearest" });
+    focusCell(trace - got.first, 0);
+  }
 }
 
 export function start() {
@@ -179,6 +183,7 @@ export function start() {
   at("column").addEventListener("input", () => at("column").setCustomValidity(""));
   at("used").addEventListener("toggle", used);
   whenFound(goTo);
+  whenSpotted((where) => { if (got && !where.first) drawTable(); });
   part(show);
   part(used);
   part(async () => {

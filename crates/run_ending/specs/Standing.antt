@@ -1,7 +1,8 @@
 -- What stands under OUT behind the end of a run.
-use Rattle.std.specs.Prelude.{◌≡◌, ◌⊎◌, ℕ, Bool, true, false, List, Option, None}
+use Rattle.std.specs.Prelude.{◌≡◌, ◌⊎◌, ⊤, ℕ, Bool, true, false, List, Option, None}
 use Rattle.safe_save.specs.Disk.{Disk}
 use Rattle.safe_save.specs.Saving.{IsStored, IsNotStored}
+use Rattle.safe_save.specs.declared.save_error.Fault.{Fault}
 use Rattle.safe_save.specs.declared.save_error.SaveError.{SaveError}
 use Rattle.safe_save.specs.declared.save_error.SaveError.TheVariants.{NotSaved, NotSettled}
 use Rattle.script_text.specs.declared.run_end.RunEnd.{RunEnd}
@@ -38,6 +39,11 @@ FitsRun asked end NotBegun = is_saving asked end ≡ false
 FitsRun asked end Saved = is_whole asked end ≡ true
 FitsRun asked end (Refused (NotSaved fault)) = is_saving asked end ≡ true
 FitsRun asked end (Refused (NotSettled error)) = is_whole asked end ≡ true
+
+-- the fault that a save was given up for, where it is one of those that leave OUT as it was
+abbrev pub IsFaultOf : Fault → SaveError → Type 0
+IsFaultOf fault (NotSaved why) = fault ≡ why
+IsFaultOf fault (NotSettled error) = ⊤
 
 -- what stands under OUT, where the writer of the save was given these bytes: what stood there, or those bytes, all of them
 abbrev pub StandsAs : OutEnd → Option ℕ → List ℕ → Disk → Type 0

@@ -1,9 +1,8 @@
 -- How a run and its save end together.
-use Rattle.std.specs.Prelude.{◌≡◌, refl, inl, true, false, [], ◌∷◌, Some}
+use Rattle.std.specs.Prelude.{◌≡◌, refl, true, false, [], ◌∷◌, Some}
 use Rattle.safe_save.specs.Disk.{fresh, created, grown, removed}
 use Rattle.script_text.specs.declared.run_end.RunEnd.TheVariants.{Done, Stopped}
-use Rattle.run_ending.specs.Standing.{StandsAs, FitsRun, IsStatusOf}
-use Rattle.run_ending.specs.declared.ending.SaveEnd.TheVariants as s
+use Rattle.run_ending.specs.Standing.{StandsAs, FitsRun}
 use Rattle.run_ending.specs.declared.out_end.OutEnd.TheVariants.{NotBegun, Saved}
 
 -- two bytes were written beside OUT and taken away again: OUT is what it was
@@ -16,7 +15,3 @@ done = refl
 
 pub stopped : FitsRun true (Stopped 3) NotBegun
 stopped = refl
-
--- with two lines refused and the save done, the status is 1
-pub done-status : IsStatusOf (Done 2) Saved 1
-done-status = (s.Saved, inl refl, refl)

@@ -1,11 +1,11 @@
 // The end of the save of a run, and what stands under OUT behind it.
-ghost use Rattle.std.specs.Prelude.{MatchResult, ◌≡◌, option_map};
+ghost use Rattle.std.specs.Prelude.{MatchResult, ◌≡◌, IsErr, IfErr, option_map};
 ghost use Rattle.std.specs.Io.Buffered.{writer_contents};
 ghost use Rattle.safe_save.specs.Saving.{Stored, IsNeverElse, beside_bytes};
-ghost use Rattle.run_ending.specs.Standing.{FitsRun, StandsAs};
+ghost use Rattle.run_ending.specs.Standing.{FitsRun, IsFaultOf, StandsAs};
 ghost use Rattle.run_ending.specs.declared.out_end.OutEnd.TheVariants.{Refused, Saved};
 
-use safe_save::{Folder, Save, SaveError, end_save, give_up};
+use safe_save::{Fault, Folder, Save, SaveError, Step, end_save, give_up};
 use script_text::RunEnd;
 use std::io::BufWriter;
 
@@ -48,13 +48,31 @@ pub fn end_out<F: Folder + Drop>(
         RunEnd::Save(_) => {
             let (save, _waiting) = writer.into_parts();
             let (folder, ended) = give_up(save);
-            (folder, told_end(ended))
+            (folder, OutEnd::Refused(SaveError::NotSaved(fault_of(ended))))
         }
         _ => {
             let (save, _waiting) = writer.into_parts();
             let (folder, _removed) = save.discard();
             (folder, OutEnd::NotBegun)
         }
+    }
+}
+
+// Why a save was given up.
+fn fault_of(ended: Result<(), SaveError>) -> Fault
+    requires { IsErr ended }
+    ensures { IfErr ended (IsFaultOf result) }
+{
+    match ended {
+        Err(SaveError::NotSaved(fault)) => fault,
+        // No folder gives this to a save that is given up, but of one nothing need be known.
+        Err(SaveError::NotSettled(error)) => Fault {
+            step: Step::Sync,
+            error,
+            taken: 0,
+            left: false,
+        },
+        Ok(()) => unreachable!(),
     }
 }
 

@@ -48,7 +48,10 @@ pub fn end_out<F: Folder + Drop>(
         RunEnd::Save(_) => {
             let (save, _waiting) = writer.into_parts();
             let (folder, ended) = give_up(save);
-            (folder, OutEnd::Refused(SaveError::NotSaved(fault_of(ended))))
+            (
+                folder,
+                OutEnd::Refused(SaveError::NotSaved(fault_of(ended))),
+            )
         }
         _ => {
             let (save, _waiting) = writer.into_parts();

@@ -442,7 +442,9 @@ fn run_to<'a, R: Files<File = File> + AllocGlobal + Print + Eprint + Input>(
             answer_on_disk(rt, volume, bytes, lines, writer, mode, options, &mut notes)
         }
     };
-    finish(rt, arguments, original, ran.end, ran.folder, ran.out, &notes)
+    finish(
+        rt, arguments, original, ran.end, ran.folder, ran.out, &notes,
+    )
 }
 
 // Answers the lines of a script on standard output, and ends the save. The refused ones are noted.

@@ -4,8 +4,8 @@
 //! [`misuse`] and [`target_of`] judge, before anything is read, where the command line lets a save
 //! go; [`end_out`] ends the save, and [`finish`] tells what there is to tell, and gives the exit
 //! status, which is a function of how the run and the save ended. [`OutPlace`] takes the saves of a
-//! session, and [`finish_told`] ends one. A save goes to a new file beside OUT, or to OUT itself where that is a
-//! pipe or a device.
+//! session, and [`finish_told`] ends one. A save goes to a new file beside OUT, or to OUT itself
+//! where that is a pipe or a device.
 //!
 //! A repair of FILE itself begins with [`journal_refusal`] and [`disk_of`], which locks it, and
 //! ends with [`finish_in_place`]; those of a session are told of by [`RepairTeller`].

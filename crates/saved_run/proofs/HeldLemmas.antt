@@ -1,5 +1,6 @@
 -- A save that is told as done has all bytes of what was held.
-use Rattle.std.proofs.Common.{◌≡◌, refl, sym, ◌∙◌, ap, subst, ℕ, Bool, true, false, List, [], ◌++◌, Option, Some, None}
+use Rattle.std.proofs.Common.{◌≡◌, refl, sym, ◌∙◌, ap, subst, ℕ, Bool, true, false, List, [], ◌++◌, Option, Some, None, Result, Ok, Err}
+use Rattle.std.specs.Prelude.{IfOk}
 use Rattle.std.specs.Io.KnownBytes.{Appends}
 use Rattle.frame_cut.specs.Volume.{bytes_of}
 use Rattle.safe_save.specs.Disk.{Disk}
@@ -22,8 +23,8 @@ given (Some xs) (Some ys) bytes e a = let none : xs ≡ [] = cc in ap Some (a �
 
 -- where a save is asked for it has all bytes of what was held
 all : (asked : Bool) (old new : Device) (bytes : List ℕ) → asked ≡ true → old.bytes ≡ Some [] → SavesIf asked old new bytes → new.bytes ≡ Some bytes
-all true old new bytes yes empty takes = given old.bytes new.bytes bytes empty takes.bytes
-all false old new bytes yes empty same = cc
+all true old new bytes is empty takes = given old.bytes new.bytes bytes empty takes.bytes
+all false old new bytes is empty same = let no : false ≡ true = is in absurd cc
 
 -- and these are what stands under OUT
 placed : (given_bytes : Option (List ℕ)) (bytes : List ℕ) (mode : Option ℕ) (disk : Option Disk) → given_bytes ≡ Some bytes → Stored given_bytes disk (StandsAs Saved mode) → Known disk (IsStored mode bytes)
@@ -38,8 +39,8 @@ held on_disk options mode old reader script answers end ended disk empty done r 
       refused = refused;
       end = r.runs.0;
       out = r.out;
-      lines = r.runs.1.0;
-      stands = placed r.out.bytes (bytes_of r.runs.0.volume) mode disk (all options.save old.out r.out (bytes_of r.runs.0.volume) r.ends.fits empty r.runs.1.1) r.ends.stands;
+      lines = r.runs.1;
+      stands = placed r.out.bytes (bytes_of r.runs.0.volume) mode disk (all options.save old.out r.out (bytes_of r.runs.0.volume) r.ends.fits empty r.runs.2) r.ends.stands;
     }
     by (ends.Stopped line) r = let no : false ≡ true = r.ends.fits in absurd cc
     by (ends.Load fault) r = let no : false ≡ true = r.ends.fits in absurd cc
@@ -47,3 +48,8 @@ held on_disk options mode old reader script answers end ended disk empty done r 
     by (ends.Answers written) r = let no : false ≡ true = r.ends.fits in absurd cc
     by (ends.Save fault) r = let no : false ≡ true = r.ends.fits in absurd cc
     by (ends.SaveAtEnd refused) r = let no : false ≡ true = r.ends.fits in absurd cc
+
+-- what follows of a success
+pub on_ok : {T E : Type 0} (r : Result T E) (P Q : T → Type 0) → ((v : T) → P v → Q v) → IfOk r P → IfOk r Q
+on_ok (Ok v) P Q follows p = follows v p
+on_ok (Err e) P Q follows p = tt

@@ -1,6 +1,6 @@
 #!/usr/bin/env bash
 # The gate: `rt ci`, which proves all and builds the program, and the end-to-end tests, which begin at once beside it on the shipped program: at the
-# end that has to be the built one, byte for byte. What they print comes last.
+# end that has to be the built one, byte for byte. What they print comes behind what `rt ci` does, and last, where something failed, the lines that say so.
 # usage: tests/gate.sh BUILT SHIPPED
 # With -m each job has a process group, which is ended whole, and takes interrupts.
 set -um
@@ -21,16 +21,20 @@ ends() {
     local status=$1
     wait "$tests" || status=1
     cat "$work/told"
+    if [ "$status" != 0 ]; then
+        echo '== what failed:'
+        grep -hE 'NOT PROVED|NOT REFUSED|BAD EDIT|FAILED|^ERROR |(^|[^0-9])[1-9][0-9]* failed|do not give' "$work/proved" "$work/told" | cut -c 1-300 | tail -n 40
+    fi
     exit "$status"
 }
 
-RT_JOBS=${RT_JOBS:-$("$here/../tools/lanes")} rt ci &
+RT_JOBS=${RT_JOBS:-$("$here/../tools/lanes")} rt ci > >(tee "$work/proved") 2>&1 &
 proofs=$!
 wait "$proofs" || ends 1
 proofs=
 [ -x "$built" ] || "$here/../tools/build" || ends 1
 if ! cmp "$built" "$shipped"; then
-    echo 'The sources do not give the shipped program: see make dist.'
+    echo 'The sources do not give the shipped program: see make dist.' | tee -a "$work/proved"
     ends 1
 fi
 ends 0

@@ -3,7 +3,7 @@
 import os
 import time
 
-from selenium.common.exceptions import StaleElementReferenceException
+from selenium.common.exceptions import ElementNotInteractableException, StaleElementReferenceException
 from selenium.webdriver import ActionChains
 from selenium.webdriver.common.by import By
 from selenium.webdriver.common.keys import Keys
@@ -58,7 +58,7 @@ class Page:
         while True:
             try:
                 found = question()
-            except StaleElementReferenceException:
+            except (StaleElementReferenceException, ElementNotInteractableException):
                 found = None
             if found:
                 return found
@@ -101,8 +101,16 @@ class Page:
         return self.wait(told)
 
     def click(self, id):
-        self.wait(lambda: self.find(id).is_enabled())
-        self.find(id).click()
+        """Clicks on something once it is there to be clicked on."""
+
+        def clicked():
+            one = self.find(id)
+            if not (one.is_displayed() and one.is_enabled()):
+                return False
+            one.click()
+            return True
+
+        self.wait(clicked)
 
     def step(self, id):
         """Clicks on something that makes a new version."""

@@ -181,7 +181,8 @@ def test_a_repair_that_was_cut_off(started, browser, example, tmp_path):
 def test_a_journal_that_is_rotten(started, browser, example):
     path = example("cube")
     journal = torn(path)
-    journal.write_bytes(journal.read_bytes()[:-1] + b"x")
+    whole = journal.read_bytes()
+    journal.write_bytes(whole[:-1] + bytes([whole[-1] ^ 1]))
     before = path.read_bytes()
     page = cut_page(started, browser, path)
     for _ in range(2):

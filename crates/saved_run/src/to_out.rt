@@ -44,9 +44,9 @@ impl<F> DiskToOut<F> {
     }
 }
 
-/// Runs a script over a volume, as `run` does, with `writer` for the save, and ends that: where all
-/// lines were run and `options.save` asks for it, OUT is the new file; else it is as it was.
-/// `mode` is that of a new file. Takes memory as `run` does.
+/// Runs a script over a volume, as `run` does, with `writer` for the save, and ends that, where all
+/// lines were run and `options.save` asks for it; else OUT stays as it was. How the save ended says
+/// what stands there (`OutEnd`). `mode` is that of a new file. Takes memory as `run` does.
 pub fn run_to_out<R: Read, S: Read, A: Write, F: Folder + Drop>(
     alloc: Global,
     reader: &mut Source<R>,

@@ -61,11 +61,13 @@ dist:
 	install -D -m 755 $(BUILT) $(SHIPPED)
 	cd dist && sha256sum segywb-x86_64-linux > SHA256SUMS
 
-# What is made from other files: the tables of names in docs/MANUAL.md from the program's, the man pages and the words of the desk from docs/MANUAL.md, the rows of docs/DEFINITIONS.md from the comments.
+# What is made from other files: the tables of names in docs/MANUAL.md from the program's, the man pages and the words of the desk from docs/MANUAL.md, the rows of docs/DEFINITIONS.md from the comments, the picture of the house from crates.txt, the count of lines in docs/PROOF.md.
 pages:
 	tools/names --write
 	tools/manpages man
 	tools/definitions
+	tools/house --write
+	tools/outside --write
 	tools/desk-words docs/MANUAL.md > python/src/segywb/desk/manual.txt
 
 install: program

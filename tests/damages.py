@@ -202,11 +202,9 @@ def revision_2(chance):
 
 
 def floats(chance):
-    """Floats, of which two are dead: that is not told of floats."""
+    """Samples of IEEE floats."""
     made = stack(chance)
     made.form, made.words = 5, ["--floats"]
-    for trace in made.traces[50:52]:
-        trace.samples = [0] * SAMPLES
     return made
 
 
@@ -436,6 +434,12 @@ def same_samples(chance, count):
     return made
 
 
+def as_floats(made):
+    """With samples of IEEE floats."""
+    made.form, made.words = 5, ["--floats"]
+    return made
+
+
 def quiet(chance):
     """Most traces are of zeros alone, so that none of the others is loud."""
     made = Survey(grid(chance, [1], range(1, 8)))
@@ -471,6 +475,10 @@ BOUNDS = [
     ("one_sample", lambda c: same_samples(c, 1), ""),
     ("two_samples", lambda c: same_samples(c, 2), "S12"),
     ("quiet", quiet, "S12"), ("shots_at_zero", shots_at_zero, "S1 S2"),
+    ("floats_not", lambda c: as_floats(loud(c, 100, 0)), ""),
+    ("floats_just", lambda c: as_floats(loud(c, 100, 1)), "S13"),
+    ("one_float", lambda c: as_floats(same_samples(c, 1)), ""),
+    ("two_floats", lambda c: as_floats(same_samples(c, 2)), "S12"),
 ]
 
 

@@ -23,7 +23,7 @@ for document in "$top"/README.md "$top"/CONTRIBUTING.md "$top"/docs/*.md "$top"/
 done
 [ "$examples" -ge 4 ] && tell 'documents with examples' ok || tell 'documents with examples' "$examples"
 
-# ---- the example files, the man pages and the rows of the definitions are what their sources give
+# ---- the example files, the man pages, the rows of the definitions and the picture of the house are what their sources give
 mkdir made
 runs_well 'examples are made' bash "$top/examples/make" made
 runs_well 'the example files' diff -r -x make -x "*.ipynb" -x "*.py" made "$top/examples"
@@ -32,6 +32,8 @@ runs_well 'man pages are made' bash "$top/tools/manpages" made
 runs_well 'the man pages are those of the manual' diff -r made "$top/man"
 runs_well 'the rows of the definitions' bash "$top/tools/definitions" --check
 runs_well 'the tables of the names' bash "$top/tools/names" --check
+runs_well 'the picture of the house, and the table of its crates' python3 -B "$top/tools/house"
+runs_well 'the lines between the theorem and OUT' python3 -B "$top/tools/outside"
 for page in segywb.1 segywb-script.5 segywb-plot.1 segywb-report.1 segywb-desk.1 segywb-library.1; do
     if command -v mandoc > /dev/null; then same "mandoc on $page" "$(mandoc -Tlint "$top/man/$page" 2>&1)" ''; fi
     if command -v man > /dev/null && man --help 2>&1 | grep -q -- --warnings; then

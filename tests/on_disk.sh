@@ -171,7 +171,7 @@ meanwhile 'cut' "get $last inline" 'refused E14 read failed' 'truncate -s 3700 o
 meanwhile 'cut, and a slice' 'slice 0' 'refused E14 read failed' 'truncate -s 3700 own.sgy'
 meanwhile 'cut, and a set that reads nothing' "set $last inline 7" 'ok' 'truncate -s 3700 own.sgy'
 meanwhile 'cut, and a choice' 'count all where @1:4 = 0' 'refused E14 read failed' 'truncate -s 3700 own.sgy'
-meanwhile 'cut, and an edit of chosen traces' 'set all @1:4 7 where inline > 0' 'refused E14 read failed' 'truncate -s 3700 own.sgy'
+meanwhile 'cut, and an edit of chosen traces' 'set all @1:4 7 where @1:4 >= 0' 'refused E14 read failed' 'truncate -s 3700 own.sgy'
 meanwhile 'grown' 'count' "traces $last" 'printf x >> own.sgy'
 meanwhile 'a trace of another length' "get 1 inline" 'refused E15 file changed' 'put own.sgy $((3600 + 114)) 0fff'
 meanwhile 'a statistic of whole numbers, cut' 'stat 1' "$(echo 'stat 1' | "$program" v.sgy --script /dev/stdin)" 'truncate -s 3700 own.sgy'

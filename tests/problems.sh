@@ -22,6 +22,20 @@ answers 'a dead trace, and a loud one' 0 s.sgy 'patch 1 0 7 7 ; patch 3 1 -701 ;
     'ok / ok / problems 2 / problem S12 traces 1 runs 1 / run 1 1 value 7'\
 ' / problem S13 traces 1 runs 1 / run 3 3 amount 701'
 
+# of floats: -0 beside 0 is dead, of what is no number the others count, the amount of a negative
+# spike has no sign, an infinity is loud, and where the median is infinite none is
+dead='problem S12 traces 1 runs 1 / run 1 1 value'
+float_line d.sgy big 5 1 80000000,00000000,7fc00000 3f800000,40000000,7fc00000 \
+    3f800000,bf800000,c3480000 3f800000,7fc00000,7fc00000 3f800000,40000000,3f800000
+answers 'dead traces and loud ones, of IEEE floats' 0 d.sgy \
+    'patch 3 2 -200.00002 ; problems ; patch 3 2 -200 ; patch 1 0 0.1 0.1 nan ; problems'\
+' ; patch 1 0 inf inf ; patch 3 2 -inf ; problems ; patch 2 0 inf ; problems' \
+    "ok / problems 2 / $dead 0 / problem S13 traces 1 runs 1 / run 3 3 amount 200.00002"\
+" / ok / ok / problems 1 / $dead 0.1"\
+" / ok / ok / problems 2 / $dead inf / problem S13 traces 2 runs 2 / run 1 1 amount inf"\
+" / run 3 3 amount inf / ok / problems 1 / $dead inf" --floats
+answers 'opaque samples have no amount' 0 d.sgy 'problems' 'problems 0' --opaque-samples
+
 # ---- the first ten runs are told
 for p in $(seq 12); do
     printf 'copy %s end\nset last scalar 7\nset last @5:4 %s\nblank end\n' \

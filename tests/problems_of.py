@@ -14,10 +14,13 @@ the answers to NAME.wanted.
 """
 
 import itertools
+import math
 import os
+import struct
 import subprocess
 import sys
 from collections import Counter
+from fractions import Fraction
 
 FAULTS = ("F1", "F2", "F3", "F4", "F5", "F6", "F9")
 TOLD_RUNS = 10
@@ -195,11 +198,11 @@ def uneven_fold(cells):
 
 
 def dead(ranges):
-    """S12: two or more samples, all the same."""
+    """S12: two or more samples that are numbers, all the same; -0 is 0."""
     marks = [
-        (trace, f"value {told[0]}")
+        (trace, f"value {told.least.replace('-0', '0') if told.low == 0 else told.least}")
         for trace, told in enumerate(ranges, 1)
-        if told and told[2] > 1 and told[0] == told[1]
+        if told and told.numbers > 1 and told.low == told.high
     ]
     return group("S12", marks)
 
@@ -207,24 +210,54 @@ def dead(ranges):
 def loud(ranges):
     """S13: the greatest amount is more than 100 times the lower median of them all."""
     amounts = {
-        trace: max(abs(told[0]), abs(told[1])) for trace, told in enumerate(ranges, 1) if told
+        trace: max((abs(told.low), told.least), (abs(told.high), told.greatest))
+        for trace, told in enumerate(ranges, 1) if told
     }
-    rising = sorted(amounts.values())
+    rising = sorted(amount for amount, _ in amounts.values())
     median = rising[(len(rising) - 1) // 2] if rising else 0
     if median == 0:
         return []
-    marks = [(trace, f"amount {amount}") for trace, amount in amounts.items()]
-    return group("S13", [mark for mark in marks if amounts[mark[0]] > LOUD_TIMES * median])
+    return group("S13", [
+        (trace, f"amount {word.lstrip('-')}")
+        for trace, (amount, word) in amounts.items() if amount > LOUD_TIMES * median
+    ])
+
+
+def exact(word, narrow):
+    """The value that the word of a sample says, exactly; ``narrow``: that of four bytes (IEEE)."""
+    value = float(word)
+    if math.isinf(value):
+        return value
+    if narrow:
+        (value,) = struct.unpack("f", struct.pack("f", value))
+    return Fraction(value)
+
+
+class Range:
+    """The least and the greatest sample of a trace, as values and as words, and how many are
+    numbers."""
+
+    def __init__(self, words, narrow):
+        floats = len(words) > 9
+        self.least, self.greatest = words[2], words[4]
+        self.numbers = int(words[8]) - (int(words[10]) if floats else 0)
+        ends = (self.least, self.greatest)
+        self.low, self.high = (exact(word, narrow) if floats else int(word) for word in ends)
+
+
+def has_amount(words):
+    """Whether a trace counts: it has samples, and of floats two or more that are numbers."""
+    return len(words) == 9 or len(words) == 11 and int(words[8]) - int(words[10]) > 1
 
 
 def sample_ranges(session, count):
-    """Of each trace its least and greatest sample and how many, None where it has none; and no
-    list where the samples have no value or are floats."""
+    """The range of each trace, None where it does not count; and no list where the samples have no
+    value."""
     told = [answer[0] for answer in session.ask([f"stat {trace}" for trace in range(1, count + 1)])]
-    if any(line.startswith("refused") or " nans " in line for line in told):
+    if any(line.startswith("refused") for line in told):
         return []
-    words = [line.split() for line in told]
-    return [(int(w[2]), int(w[4]), int(w[8])) if len(w) == 9 else None for w in words]
+    narrow = " format 5 " in session.ask(["info"])[0][0]
+    return [Range(w, narrow) if has_amount(w) else None for w in (line.split() for line in told)]
 
 
 def problems(session):

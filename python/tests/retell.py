@@ -57,19 +57,20 @@ def whole_file(v):
         yield f"getbin {name}", f"value {v.getbin(name)}"
 
 
-def facts(numbers):
+def facts(v, numbers):
     """Numbers by their words, as the program writes them."""
-    return "".join(f" {word} {number}" for word, number in numbers.items())
+    return "".join(f" {word} {value_of(v, number) if isinstance(number, float) else number}" for word, number in numbers.items())
 
 
-def problems(found):
+def problems(v):
     """Problems in the words of the program, from the parts that Python shows."""
+    found = v.problems()
     made = [f"problems {len(found)}"]
     for one in found:
         traces = "" if one.traces is None else f" traces {one.traces}"
         runs = f" runs {one.runs}" if one.runs else ""
-        made.append(f"problem {one.code}{traces}{facts(one.facts)}{runs}")
-        made += [f"run {run.first} {run.last}{facts(run.facts)}" for run in one.first_runs]
+        made.append(f"problem {one.code}{traces}{facts(v, one.facts)}{runs}")
+        made += [f"run {run.first} {run.last}{facts(v, run.facts)}" for run in one.first_runs]
     return "\n".join(made)
 
 
@@ -86,7 +87,7 @@ def reports(v):
     for k in (0, 1, 7):
         yield f"slice {k}", listed("slice", (f"row {i} {x} {p} {value_of(v, value)}" for i, x, p, value in v.slice(k).rows))
     yield "faults", listed("faults", (fault.text for fault in v.faults()))
-    yield "problems", problems(v.problems())
+    yield "problems", problems(v)
     for i, x, fold in list(v.grid.rows)[:5]:
         yield f"fold {i} {x}", f"fold {v.fold(i, x)}"
 

@@ -1,5 +1,6 @@
 """Edits and questions of chosen traces: each compared with a run of the program over the same lines."""
 
+import inspect
 import subprocess
 import sys
 
@@ -29,6 +30,12 @@ EDITS = [
     (lambda v: v.compute(1, 12, "x", "x + 1000", where="inline >= 102"), "compute 1 12 x x + 1000 where inline >= 102", 8),
     (lambda v: v.compute(None, None, "cdp", TraceField.INLINE_3D, "*", 10), "compute all cdp @189:4 * 10", None),
     (lambda v: v.compute(None, None, "x", "x + 1", where="1 = 2"), "compute all x x + 1 where 1 = 2", 0),
+    (lambda v: v.swap("x", "cdp"), "swap all x cdp", None),
+    (lambda v: v.swap("x", "cdp", first=5), "swap 5 last x cdp", None),
+    (lambda v: v.swap(TraceField.CDP, "@109:2", 2, 8), "swap 2 8 @21:4 @109:2", None),
+    (lambda v: v.swap("x", "cdp", where=LATE), f"swap all x cdp where {LATE}", 2),
+    (lambda v: v.swap("x", "cdp", last=7, where=LATE), f"swap 1 7 x cdp where {LATE}", 1),
+    (lambda v: v.swap("inline", "crossline", where="inline = 9"), "swap all inline crossline where inline = 9", 0),
     (lambda v: v.delete(3, 6), "delete 3 6", None),
     (lambda v: v.delete(trace=3), "delete 3", None),
     (lambda v: v.delete(where="crossline = 204"), "delete all where crossline = 204", 3),
@@ -45,7 +52,17 @@ TAKES = [
     lambda v, text: v.count(traces=[1, 2], where=text), lambda v, text: v.headers("inline", where=text), lambda v, text: v.dataframe("inline", where=text),
     lambda v, text: v.find("inline", 1, 2, where=text), lambda v, text: v.extremes(where=text), lambda v, text: v.extremes(traces=[1, 2], where=text),
     lambda v, text: v.positions(where=text), lambda v, text: v.fit(where=text), lambda v, text: v.plot_headers("inline", where=text),
+    lambda v, text: v.swap("inline", "crossline", where=text),
+    lambda v, text: v.set_many("delay", None, 7, where=text), lambda v, text: v.section(where=text), lambda v, text: v.section([1, 2], text, inline=101),
+    lambda v, text: v.section_traces(where=text), lambda v, text: v.plot_section(where=text),
 ]
+
+
+def test_each_call_that_takes_a_selection_takes_conditions():
+    calls = {name: inspect.signature(call).parameters for name, call in inspect.getmembers(segywb.Volume, inspect.isfunction) if not name.startswith("_")}
+    taking = {name for name, words in calls.items() if "traces" in words and words["traces"].annotation == "Any"}
+    assert {"count", "headers", "section", "fit", "plot_section", "set_many"} <= taking
+    assert {name for name in taking if "where" not in calls[name]} == set()
 
 
 @pytest.mark.parametrize("case", EDITS, ids=lambda case: case[1])
@@ -98,6 +115,8 @@ def test_what_is_asked_of_chosen_traces(opened, monkeypatch):
             places = volume.positions(traces=wanted)
             assert volume.positions(traces=traces, where=LATE).tolist() == places.tolist()
             assert volume.find("crossline", 204, 204, traces=traces, where=LATE)["trace"].tolist() == [at for at in wanted if at == 8]
+            assert volume.section_traces(traces, LATE).tolist() == wanted
+            assert volume.section(traces, LATE).array.tolist() == volume.section(wanted).array.tolist()
     assert volume.extremes(where=LATE)["crossline"] == (203, 204, 203, 204)
     assert volume.extremes(traces=slice(1, 8), where=LATE)["crossline"] == (203, 203, 203, 203)
     assert volume.edits == []
@@ -111,6 +130,48 @@ def test_a_fit_and_a_picture_of_chosen_traces(opened, tmp_path):
     drawn = volume.plot_headers("crossline", where="inline = 102", path=tmp_path / "some.png")
     assert drawn[0].lines[0].get_xydata().tolist() == [[5, 201], [6, 202], [7, 203], [8, 204]]
     assert (tmp_path / "some.png").stat().st_size > 0
+
+
+def test_a_section_of_chosen_traces(opened, tmp_path):
+    """It stands in the order of a section, and its numbers count beside the conditions."""
+    volume = opened("cube")
+    volume.move(8, 5)
+    assert volume.section(where="crossline > 202", inline=102).traces.tolist() == [8, 5]
+    assert volume.section(slice(1, 8), "inline != 101", crossline=204).traces.tolist() == [5]
+    assert volume.section(where=LATE).traces.tolist() == [5, 8] and volume.section(where="inline = 9").shape == (0, 0)
+    axes = volume.plot_section(where="crossline > 202", inline=102, path=tmp_path / "some.png")
+    assert axes[-1].get_title() == "inline 102, where crossline > 202" and axes[-1].get_xlim() == (-0.5, 1.5)
+    volume.map("where", "@109:2")
+    with pytest.raises(TypeError, match="conditions"):  # a field of that name is told by its place
+        volume.section(where=7)
+    assert volume.section_traces(**{"@109:2": 0}, inline=102).tolist() == [6, 7, 8, 5]
+
+
+def test_many_numbers_of_chosen_traces(opened):
+    """As many as are chosen, in their order; they are one step."""
+    volume = opened("cube")
+    assert volume.set_many("delay", None, [70, 80], where=LATE) == 2 and volume.edits == ["set 7 delay 70", "set 8 delay 80"]
+    assert volume.set_many("cdp", [8, 1, 7], [1, 2], where=LATE) == 2 and volume.edits[2:] == ["set 8 cdp 1", "set 7 cdp 2"]
+    assert volume.set_many("delay", slice(1, 8), 9, where=LATE) == 1 and volume.set_many("delay", None, [], where="inline = 9") == 0
+    assert volume.set_many("delay", [1], [5]) is None and volume.undoable == 4
+    with pytest.raises(ValueError, match="2 traces and 12 values"):
+        volume.set_many("delay", None, range(12), where=LATE)
+    assert volume.undo(4)[-1] == "set 1 delay 5" and volume.extremes().get("delay") is None
+
+
+@pytest.mark.parametrize("take", range(len(TAKES)))
+def test_a_sign_stands_between_blanks(opened, take):
+    """One that does not is none of a condition; what is meant is told, and nothing is sent."""
+    volume = opened("cube")
+    asked = volume._engine.session().pid
+    for text, meant in (
+        ("inline=102", "'inline = 102', not"), ("inline = 1 and x>=3", "'inline = 1 and x >= 3', not"), ("inline == 102", "'inline = 102', not"),
+        ("inline !=102", "'inline != 102', not"), ("-3<inline", "'-3 < inline', not"), ("inline <> 102", ">=: not 'inline <> 102'"), ("x ! = 3", ">=: not"),
+    ):
+        with pytest.raises(ValueError, match="stands between blanks") as error:
+            TAKES[take](volume, text)
+        assert meant in str(error.value), text
+    assert volume.edits == [] and volume._engine.session().pid == asked
 
 
 def test_none_is_chosen(opened):
@@ -176,7 +237,8 @@ def test_what_an_edit_refuses_changes_nothing(opened):
     for edit, code in (
         (lambda: volume.set_each("delay", 2**15, where=LATE), "E04"), (lambda: volume.renumber(5, 13, "delay", 7, where=LATE), "E01"),
         (lambda: volume.compute(None, None, "delay", "1 / offset", where=LATE), "E13"), (lambda: volume.delete(3, 13), "E01"), (lambda: volume.delete(6, 3), "E01"),
-        (lambda: volume.set_each("delay", 7, traces=[1, 2, 13]), "E01"),
+        (lambda: volume.set_each("delay", 7, traces=[1, 2, 13]), "E01"), (lambda: volume.swap("x", "colour"), "E02"), (lambda: volume.swap("x", "y", 3, 13), "E01"),
+        (lambda: volume.swap("x", "delay", where=LATE), "E04"),
     ):
         with pytest.raises(segywb.Refused) as refusal:
             edit()
@@ -189,7 +251,7 @@ def test_what_is_no_call(opened):
     for call in (
         lambda: volume.delete(), lambda: volume.delete(last_trace=4), lambda: volume.delete(last_trace=4, where=LATE), lambda: volume.delete(True),
         lambda: volume.delete(1, 2.0), lambda: volume.count(slice(1, 5)), lambda: volume.set_each("delay", 1.0), lambda: volume.renumber(1.0, None, "delay", 1),
-        lambda: volume.compute(None, None, "delay", where=LATE),
+        lambda: volume.compute(None, None, "delay", where=LATE), lambda: volume.swap("inline"), lambda: volume.swap("inline", "crossline", True),
     ):
         with pytest.raises(TypeError):
             call()
@@ -217,9 +279,11 @@ def test_how_they_are_saved(opened):
     """Numbers of chosen traces go into the file itself; chosen traces that are deleted want a new file."""
     volume = opened("cube")
     volume.set_each("delay", 7, where=LATE)
+    volume.swap("cdp", "@193:4", where=LATE)
     assert volume.in_place().possible
     volume.save(in_place=True)
-    assert volume.edits == [] and volume.count(where="delay = 7") == 2
+    assert volume.edits == [] and volume.count(where="delay = 7") == volume.count(where="cdp > 202 and crossline = 0") == 2
+    volume.swap("cdp", "crossline", 7, 8)
     volume.delete(where="delay = 7")
     assert not volume.in_place().possible
     volume.save()

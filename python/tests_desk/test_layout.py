@@ -1,5 +1,6 @@
 """The panels: side by side, enlarged, folded; their sizes, which are kept; and that a laptop's window is enough."""
 
+import files
 import pytest
 from conftest import wait_for
 from selenium.webdriver import ActionChains
@@ -39,6 +40,43 @@ def test_a_laptop_is_enough(laptop):
         left = next(one for one, place in places(laptop).items() if place == "left")
         assert room(laptop, left)[2] <= room(laptop, name)[0] and sorted(places(laptop).values()) == ["below", "below", "left", "right"]
         assert room(laptop, "commands")[1] >= max(room(laptop, name)[3], room(laptop, left)[3])
+
+
+def chosen(page, side):
+    """The panel whose tab is chosen on a side."""
+    return page.js("return [...document.querySelectorAll(`#${arguments[0]}-panels > [aria-selected=true]`)].map((one) => one.id)", side)
+
+
+def test_nothing_is_out_of_sight(opened, laptop, tmp_path):
+    """Each panel has a tab on both sides, which is seen without scrolling; a click shows the panel there, whole, with the command line below it."""
+    page = opened(files.cube(tmp_path / "many.sgy", 30, 20, 5))
+    for side in ("left", "right"):
+        for name in ("maps", "side", "section", "graph", "headers"):
+            left, top, right, bottom = room(page, f"{side}-{name}")
+            assert 0 <= left < right <= 1280 and 0 <= top < bottom <= room(page, "maps")[1], (side, name)
+    assert chosen(page, "left") == ["left-maps"] and chosen(page, "right") == ["right-side"]
+    for side in ("left", "right"):
+        for name in ("headers", "graph", "section", "side", "maps"):
+            page.click(f"{side}-{name}")
+            page.wait(lambda: page.find(name).get_attribute("data-place") == side)
+            assert chosen(page, side) == [f"{side}-{name}"] and no_wider(page)
+            assert page.js("return window.scrollY") == 0 and room(page, name)[3] <= room(page, "commands")[1] and room(page, "line")[3] <= 720, (side, name)
+    page.click("left-headers")
+    page.click("right-graph")
+    page.wait(lambda: page.data("graphKind") == "against-trace" and len(page.all("#table-room tbody tr")) == 25)
+    assert room(page, "table-room")[3] <= 720 and page.js("const one = document.getElementById('table-room'); return one.scrollHeight > one.clientHeight")
+    assert room(page, "plot-graph")[3] <= 720
+
+
+def test_the_tabs_by_the_keyboard(laptop):
+    laptop.find("right-side").send_keys(Keys.ARROW_RIGHT)
+    laptop.wait(lambda: chosen(laptop, "right") == ["right-section"])
+    assert laptop.js("return document.activeElement.id") == "right-section" and places(laptop)["side"] == "below"
+    laptop.find("right-section").send_keys(Keys.ARROW_LEFT * 2)
+    laptop.wait(lambda: chosen(laptop, "right") == ["right-maps"])
+    assert chosen(laptop, "left") == ["left-side"]  # what stood on the other side takes the place
+    laptop.open()
+    assert (chosen(laptop, "left"), chosen(laptop, "right")) == (["left-side"], ["right-maps"])
 
 
 def test_a_large_screen_is_used(laptop):

@@ -244,7 +244,7 @@ def test_rings_of_many_traces_are_one_outline(tmp_path):
 def test_the_page_tells_which_lines_lack(opened, tmp_path):
     page = opened(survey(tmp_path / "cube.sgy", without(range(1, 301), 150), without(range(1, 401), 200, 201)))
     assert "Usual fold 1; grey: no traces. Missing: 1 inline (150) and 2 crosslines (200, 201)." in page.text("caption")
-    page.one("#maps .sash").send_keys(Keys.ARROW_UP * 12)  # so low that there are fewer pixels than inlines
+    page.one("#maps .sash").send_keys(Keys.ARROW_UP * 4)  # so low that there are fewer pixels than inlines
     page.wait(lambda: "A pixel stands for up to" in page.text("caption"))
     rows = page.map()
     row = next(at for at, one in enumerate(rows) if all(value is None for value in one))

@@ -63,6 +63,8 @@ def lines_of(chance, count):
             last = chance.randint(one, count)
             made.append(f"compute {one} {last} {chance.choice(['inline', 'crossline', 'x', '@193:4', 'ensemble'])} {chance.choice(['44 - crossline', 'inline * 2', 'x + 1000', 'y % 7', '9'])}")
         elif chance.random() < 0.3:
+            made.append(f"swap {one} {chance.randint(one, count)} {chance.choice(['inline crossline', 'ensemble @193:4', 'y inline'])}")
+        elif chance.random() < 0.3:
             made.append(f"copy {one} {chance.choice([chance.randint(1, count + 1), 'end'])}")
             count += 1
         elif chance.random() < 0.4:
@@ -416,7 +418,7 @@ def chosen_line(chance, count):
     more = chance.choice(["", f" where {where}"])
     return chance.choice([
         f"set {span} {field} {chance.randint(0, 40)}{more}", f"renumber {span} {field} 3 {chance.randint(-1, 2)}{more}", f"set last {field} 8",
-        f"compute {span} {field} crossline + 1{more}", f"delete {first} {last}", f"delete {span} where {where}", "delete last", "copy 1 end", "copy last 1", "blank end",
+        f"compute {span} {field} crossline + 1{more}", f"swap {span} @189:4 crossline{more}", f"swap {span} ensemble y{more}", f"delete {first} {last}", f"delete {span} where {where}", "delete last", "copy 1 end", "copy last 1", "blank end",
         "blank last", "move last 1", "sort all -crossline", f"set {first} {field} 5", "delete last last",
         f"move {first} {last} {chance.randint(1, count - last + first)}", f"move {first} last last",
         "map shot", "map usual",

@@ -84,7 +84,7 @@ def test_undo_and_redo(opened):
 @pytest.mark.parametrize("what, wanted", [
     ("renumber", ["renumber 1 2 inline 101 0", "renumber 5 6 inline 101 0"]),
     ("set", ["set 1 2 inline 101", "set 5 6 inline 101"]),
-    ("swap", [f"compute {both} {line}" for both in ("1 2", "5 6") for line in ("inline inline + crossline", "crossline inline - crossline", "inline inline - crossline")]),
+    ("swap", ["swap 1 2 inline crossline", "swap 5 6 inline crossline"]),
     ("delete", ["delete 6", "delete 5", "delete 2", "delete 1"]),
     ("compute", ["compute 1 2 inline inline + 0", "compute 5 6 inline inline + 0"]),
 ])
@@ -109,9 +109,9 @@ def test_all_that_a_rectangle_finds(opened):
     page = opened("wrong_line", before="import segywb.desk.views as views; views.MOST_RUNS = 1")
     page.drag([(0, 0), (0, 1)])
     assert page.text("offer-count") == "4 traces" and page.find("offer-found").is_selected() and not page.find("offer-found").is_enabled()
-    assert "swap" not in page.find("offer-what").text
     found = "where inline = 101 and crossline >= 201 and crossline <= 202"
-    for what, wanted in (("set", "set all inline 101"), ("compute", "compute all inline inline + 0"), ("delete", "delete all"), ("renumber", "renumber all inline 101 0")):
+    for what, wanted in (("set", "set all inline 101"), ("compute", "compute all inline inline + 0"), ("delete", "delete all"),
+                         ("swap", "swap all inline crossline"), ("renumber", "renumber all inline 101 0")):
         page.js("const one = document.getElementById('offer-what'); one.value = arguments[0]; one.dispatchEvent(new Event('input'))", what)
         assert page.one("#offers pre").text == f"{wanted} {found}"
     page.find("offer-value").clear()

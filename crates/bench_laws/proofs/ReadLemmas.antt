@@ -19,7 +19,7 @@ use Rattle.sample_codes.specs.Formats.{values, sample_fits}
 use Rattle.text_block.specs.Blocks.{code_of}
 use Rattle.text_block.specs.Lines.{text_fault}
 use Rattle.std.specs.Str.{chars}
-use Rattle.trace_view.specs.Values.{has_place, has_floats, sample_of, samples_of}
+use Rattle.trace_view.specs.Values.{has_place, has_floats, sample_of, samples_of, value_at}
 use Rattle.bench_rules.specs.FloatStatistics.{stat_of}
 use Rattle.bench_rules.specs.declared.answer.Answer.{Answer}
 use Rattle.bench_rules.specs.declared.answer.Answer.TheVariants as answers
@@ -51,7 +51,9 @@ use Rattle.bench_rules.specs.ManyTraces.{each_of, positions}
 use Rattle.bench_rules.specs.Mappings.{bindings, first_bind_fault}
 use Rattle.bench_rules.specs.Places.{place_in_trace, place_in_binary, is_in_binary, touches_frame}
 use Rattle.bench_rules.specs.Refused.{first_refusal, is_line, is_sample_count, is_too_large, changes_length, no_trace, no_place_for_trace, room_refusal, insert_refusal, values_refusal, set_refusal, set_bin_refusal, text_refusal, map_refusal, count_refusal, no_trace_from, first_refusal_among, sort_refusal}
+use Rattle.bench_rules.specs.SampleStatistics.{statistics_of_each}
 use Rattle.bench_rules.specs.State.{State}
+use Rattle.bench_rules.specs.SwappedFields.{half_swapped, swap_refusal, two_places}
 use Rattle.bench_rules.specs.Steps.{StepUnless}
 use Rattle.bench_rules.specs.Tables.{table_of}
 use Rattle.bench_rules.specs.TraceEdits.{numbers}
@@ -170,6 +172,12 @@ range_silent : (v : Volume) (range : Option (ℕ × ℕ)) → Silent (range_refu
 range_silent v None = tt
 range_silent v (Some r) = either (no_trace v r.0) (no_trace_from v r.0 r.1) (no_trace_silent v r.0) (from_silent v r.0 r.1)
 
+swap_silent : (h : Head) (places : Place × Place) (t : List ℕ) → Silent (swap_refusal h places t)
+swap_silent h places t =
+    choose (not (has_place h t places.0 && has_place h t places.1)) _ _ refl
+    (either (set_refusal h t (Some places.0) (value_at h t places.1)) (set_refusal h (half_swapped h places t) (Some places.1) (value_at h t places.0))
+    (set_silent h t (Some places.0) (value_at h t places.1)) (set_silent h (half_swapped h places t) (Some places.1) (value_at h t places.0)))
+
 each_silent : (v : Volume) (fields : Pairs) (edit : ChosenEdit) (ps : List ℕ) → Silent (refusal_of_edit v fields edit ps)
 each_silent v fields (each.Nothing names) ps = tt
 each_silent v fields (each.Renumber f first step) ps = among_silent v (place_in_trace fields f) (counted_each first step 0 ps)
@@ -179,6 +187,11 @@ each_silent v fields (each.Compute f source steps) ps = by (formula_of fields f 
     by None = tt
     by (Some g) = first_at_silent (compute_refusal v g) (λ p. result_silent v.head (trace_at v p) g.place _ (computed_silent v.head g p (trace_at v p))) ps
 each_silent v fields each.Delete ps = tt
+each_silent v fields (each.Swap first second) ps = by (two_places fields first second)
+  where
+    by : (o : Option (Place × Place)) → Silent (option_map_or (λ places. first_at (λ p. swap_refusal v.head places (trace_at v p)) ps) o None)
+    by None = tt
+    by (Some places) = first_at_silent (λ p. swap_refusal v.head places (trace_at v p)) (λ p. swap_silent v.head places (trace_at v p)) ps
 
 of_chosen_silent : (v : Volume) (fields : Pairs) (edit : ChosenEdit) (o : Option (List ℕ)) → Silent (refusal_of_chosen v fields edit o)
 of_chosen_silent v fields edit None = refl
@@ -327,6 +340,7 @@ each_answer_silent v fields chosen_queries.Count ps = tt
 each_answer_silent v fields (chosen_queries.Table names) ps = table_of_each_silent v ps (each_of (place_in_trace fields) names)
 each_answer_silent v fields (chosen_queries.Find f low high) ps = found_of_each_silent v ps low high (place_in_trace fields f)
 each_answer_silent v fields chosen_queries.Extremes ps = tt
+each_answer_silent v fields chosen_queries.Stats ps = of_values_silent v.head (Ok (statistics_of_each (has_floats v.head) v ps)) tt
 
 chosen_answer_silent : (v : Volume) (fields : Pairs) (query : ChosenQuery) (o : Option (List ℕ)) → SilentReply (answer_of_chosen v fields query o)
 chosen_answer_silent v fields query None = refl

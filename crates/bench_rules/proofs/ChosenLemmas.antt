@@ -14,7 +14,7 @@ use Rattle.frame_cut.specs.Volume.{Volume, bytes_of}
 use Rattle.frame_cut.proofs.EditLemmas.{cut_with_removed}
 use Rattle.bench_rules.specs.declared.chosen.Chosen.{Chosen}
 use Rattle.bench_rules.specs.declared.chosen_edit.ChosenEdit.{ChosenEdit}
-use Rattle.bench_rules.specs.declared.chosen_edit.ChosenEdit.TheVariants.{Nothing, Renumber, Compute, Delete}
+use Rattle.bench_rules.specs.declared.chosen_edit.ChosenEdit.TheVariants.{Nothing, Renumber, Compute, Delete, Swap}
 use Rattle.bench_rules.specs.declared.edit.Edit.TheVariants.{OfChosen}
 use Rattle.bench_rules.specs.declared.field.Field.{Field}
 use Rattle.bench_rules.specs.declared.operand.Operand.{Operand}
@@ -31,12 +31,14 @@ use Rattle.bench_rules.specs.Places.{place_in_trace}
 use Rattle.bench_rules.specs.RangeRefusals.{no_trace, no_trace_from, range_refusal}
 use Rattle.bench_rules.specs.Refused.{first_refusal, first_refusal_among, set_refusal}
 use Rattle.bench_rules.specs.State.{State}
+use Rattle.bench_rules.specs.SwappedFields.{changed_each, swap_refusal, swapped, two_places}
 use Rattle.bench_rules.specs.TraceEdits.{counted, put_each}
 use Rattle.bench_rules.proofs.ComputeLemmas.{number_of, number_there}
 use Rattle.bench_rules.proofs.FirstLemmas.{AreTraces, are_traces, both_none}
 use Rattle.bench_rules.proofs.ListedLemmas.{AreListed, listed_cut, with_listed}
 use Rattle.bench_rules.proofs.ManyValueLemmas.{IsRead, with_traces}
 use Rattle.bench_rules.proofs.SetLemmas.{Accepted, accepted, refused_at}
+use Rattle.bench_rules.proofs.SwapLemmas.{head-changed, swapped_cut}
 
 -- ---- rising positions
 
@@ -226,6 +228,17 @@ each_cut s (Compute field source steps) ps read up has none = by (formula_of s.f
           head = refl;
         }
 each_cut s Delete ps read up has none = record { volume = without_each s.volume ps; cut = (without_cut s 1 ps (omega arith) up).cut read; head = head-without s.volume ps }
+each_cut s (Swap first second) ps read up has none = by (two_places s.fields first second) refl
+  where
+    by : (o : Option (Place × Place)) → two_places s.fields first second ≡ o → LeavesCut s (Swap first second) ps
+    by None e = let no : false ≡ true = rw e at has in absurd cc
+    by (Some places) e =
+        let free : first_at (λ p. swap_refusal s.volume.head places (trace_at s.volume p)) ps ≡ None = rw e at none in
+        record {
+          volume = changed_each (swapped s.volume.head places) s.volume ps;
+          cut = rw e (swapped_cut s places ps read up free);
+          head = head-changed (swapped s.volume.head places) s.volume ps;
+        }
 
 -- an edit that is not refused leaves a file that is cut
 pub chosen_cut : (s : State) (c : Chosen) (edit : ChosenEdit) → IsRead s → first_refusal s (OfChosen c edit) ≡ None → (v : Volume) × IsCut (bytes_after s (OfChosen c edit)) s.reading s.limits v × (v.head ≡ s.volume.head)

@@ -17,6 +17,7 @@ pub mod RenumberLemmas
 mod CountedLemmas
 pub mod ComputedLemmas
 pub mod ComputeLemmas
+pub mod SwapLemmas
 pub mod ChosenLemmas
 pub mod LiveLemmas
 mod TableLemmas
@@ -30,6 +31,7 @@ pub mod SeenLemmas
 pub mod EachLemmas
 pub mod LookLemmas
 pub mod RangeLemmas
+pub mod RisingLemmas
 pub mod FloatLemmas
 pub mod ToldLemmas
-mod TestLemmas
+pub mod TestLemmas

@@ -11,12 +11,13 @@ use Rattle.field_map.specs.declared.place.Place.{Place}
 use Rattle.field_map.specs.Places.{offset_of}
 use Rattle.frame_cut.specs.declared.file_head.Head.{Head}
 use Rattle.frame_cut.specs.Cuts.{IsTrace, IsCut}
-use Rattle.frame_cut.specs.Frames.{trace_length}
+use Rattle.frame_cut.specs.Frames.{extensions_of, trace_length}
 use Rattle.frame_cut.specs.Parts.{put_each_at, with_each}
 use Rattle.frame_cut.specs.Splice.{splice}
 use Rattle.frame_cut.specs.Traces.{count_of, trace_at}
 use Rattle.frame_cut.specs.Volume.{Volume, front_of, bytes_of}
 use Rattle.frame_cut.proofs.EditLemmas.{length-splice}
+use Rattle.frame_cut.proofs.ExtensionLemmas.{extensions_kept}
 use Rattle.trace_view.specs.Values.{has_place, samples_at}
 use Rattle.trace_store.specs.Each.{part_of}
 use Rattle.bench_rules.specs.declared.edit.Edit.TheVariants.{Set}
@@ -128,7 +129,7 @@ put_alike v ts k p place x file a =
     ap (λ (n : ℕ). splice file (length (front_of v) + n + 240 * place.extension + place.byte - 1) place.kind.size (bytes v.head.order place.kind x)) (a.starts (p - 1))
 
 -- the value leaves the trace its length
-length-with_value : (h : Head) (t : List ℕ) (place : Place) (x : ℤ) → IsTrace h t → has_place h t place ≡ true → length (with_value h t place x) ≡ length t
+pub length-with_value : (h : Head) (t : List ℕ) (place : Place) (x : ℤ) → IsTrace h t → has_place h t place ≡ true → length (with_value h t place x) ≡ length t
 length-with_value h t place x is has =
     let new : List ℕ = bytes h.order place.kind x in
     let at : ℕ = 240 * place.extension + place.byte - 1 in
@@ -194,13 +195,13 @@ values_from s place value k (suc n) ts a cut ok =
 
 -- ---- the values' bytes laid over the traces
 
-put_each-none : (ts : List (List ℕ)) (place at size : ℕ) → put_each_at ts place at size [] ≡ ts
+pub put_each-none : (ts : List (List ℕ)) (place at size : ℕ) → put_each_at ts place at size [] ≡ ts
 put_each-none [] place at size = refl
 put_each-none (t ∷ ts) zero at size = refl
 put_each-none (t ∷ ts) (suc place) at size = ap (λ (xs : List (List ℕ)). t ∷ xs) (put_each-none ts place at size)
 
 -- the first trace is changed, and then the others
-put_each-step : (ts : List (List ℕ)) (place at size : ℕ) (bs : List ℕ) → place < length ts → 0 < length bs
+pub put_each-step : (ts : List (List ℕ)) (place at size : ℕ) (bs : List ℕ) → place < length ts → 0 < length bs
     → put_each_at (set ts place (splice (get_or ts place []) at size (take size bs))) (suc place) at size (drop size bs) ≡ put_each_at ts place at size bs
 put_each-step [] place at size bs within some = absurd (omega arith)
 put_each-step (t ∷ ts) zero at size [] within some = absurd (omega arith)
@@ -234,13 +235,13 @@ put_each_is h place value k (suc n) ts some low last =
 pub record ValuesFitIn (s : State) (a n at size : ℕ) (bs : List ℕ) : Type 0 where
   pub first : 1 ≤ a
   pub some : 0 < size
-  pub small : size ≤ 8
   pub exact : length bs % size ≡ 0
   pub count : length bs / size ≡ n
   pub last : a - 1 + length bs / size ≤ count_of s.volume
   pub inside : (k : ℕ) → k < length bs / size → at + size ≤ length (get_or s.volume.traces (a - 1 + k) [])
   pub front : (k : ℕ) → k < length bs / size → at + size ≤ samples_at s.volume.head (get_or s.volume.traces (a - 1 + k) [])
   pub whole : (k : ℕ) → k < length bs / size → IsTrace s.volume.head (splice (get_or s.volume.traces (a - 1 + k) []) at size (part_of bs size k))
+  pub kept : (k : ℕ) → k < length bs / size → extensions_of s.volume.head (splice (get_or s.volume.traces (a - 1 + k) []) at size (part_of bs size k)) ≡ extensions_of s.volume.head (get_or s.volume.traces (a - 1 + k) [])
 
 -- a size is above 0
 pub size-pos : (n : ℕ) → IsSize n → 0 < n
@@ -250,18 +251,26 @@ size-pos n (inr (inr (inl e))) = omega arith
 size-pos n (inr (inr (inr (inl e)))) = omega arith
 size-pos n (inr (inr (inr (inr e)))) = omega arith
 
--- each lies inside the headers of its trace, and leaves it a whole one
+-- each lies inside the headers of its trace, and leaves it a whole one, with as many header extensions
 record IsPutAt (h : Head) (t : List ℕ) (at size : ℕ) (new : List ℕ) : Type 0 where
   pub inside : at + size ≤ length t
   pub front : at + size ≤ samples_at h t
   pub whole : IsTrace h (splice t at size new)
+  pub kept : extensions_of h (splice t at size new) ≡ extensions_of h t
 
 whole_with : (h : Head) (t : List ℕ) (place : Place) (x : ℤ) → IsTrace h t → has_place h t place ≡ true → trace_length h (with_value h t place x) ≡ Some (length t)
     → IsPutAt h t (offset_of place) place.kind.size (bytes h.order place.kind x)
 whole_with h t place x is has exact =
     let len : length (with_value h t place x) ≡ length t = length-with_value h t place x is has in
     let there = stands h t place has in
+    let new : List ℕ = bytes h.order place.kind x in
+    let at : ℕ = offset_of place in
+    let size : length new ≡ place.kind.size = length-number h.order place.kind x in
+    let few : length new ≤ 8 = omega (arith, size, at_most_8 place.kind.size (sized place.kind.size there.size)) in
+    let inside : at + length new ≤ length t = omega (arith, size, place_inside h t place is has) in
+    let same : with_value h t place x ≡ splice t at (length new) new = ap (λ (n : ℕ). splice t at n new) (sym size) in
     record {
+      kept = ap (extensions_of h) same ∙ extensions_kept h t new at is few inside (sym (ap (trace_length h) same) ∙ exact);
       inside = place_inside h t place is has;
       front = omega (arith, there.first, there.last, there.header);
       whole = record { whole = omega (arith, len, is.whole); exact = exact ∙ ap (λ (n : ℕ). let o : Option ℕ = Some n in o) (sym len) };
@@ -290,13 +299,13 @@ values_fit_in s place value a n at size bs cut ok g h is =
     record {
       first = ok.low;
       some = some;
-      small = rw h (at_most_8 place.kind.size known);
       exact = rw long (mul-mod_left n size);
       count = count;
       last = omega (arith, count, ok.last);
       inside = λ k less. (put_at s place value a n k at size bs cut ok (omega (arith, less, count)) g h is).inside;
       front = λ k less. (put_at s place value a n k at size bs cut ok (omega (arith, less, count)) g h is).front;
       whole = λ k less. (put_at s place value a n k at size bs cut ok (omega (arith, less, count)) g h is).whole;
+      kept = λ k less. (put_at s place value a n k at size bs cut ok (omega (arith, less, count)) g h is).kept;
     }
 
 -- ---- the volume behind the edit

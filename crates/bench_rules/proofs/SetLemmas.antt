@@ -50,7 +50,7 @@ pub unless : {X : Type 0} → (b : Bool) (x : X) (o : Option X) → cond (not b)
 unless true x o e = (refl, e)
 unless false x o e = absurd cc
 
-same_length : (o : Option ℕ) (n : ℕ) → is_length o n ≡ true → o ≡ Some n
+pub same_length : (o : Option ℕ) (n : ℕ) → is_length o n ≡ true → o ≡ Some n
 same_length None n e = absurd cc
 same_length (Some m) n e = ap (λ (k : ℕ). let o : Option ℕ = Some k in o) (eqb-true m n e)
 

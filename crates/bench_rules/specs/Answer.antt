@@ -1,5 +1,5 @@
 -- The answer to every query, from a volume and its field map.
-use Rattle.std.specs.Prelude.{◌≡◌, ◌⊎◌, ◌<◌, ℕ, ℤ, ◌&&◌, nat_le, max, not, List, [], ◌++◌, length, map, flat_map, Option, Some, None, is_none, Result, Ok, Err, IsErrAnd, IsOk, if◌then◌else◌}
+use Rattle.std.specs.Prelude.{◌≡◌, ◌⊎◌, ◌<◌, ℕ, ℤ, ◌&&◌, nat_le, max, not, List, [], ◌++◌, length, map, flat_map, Option, Some, None, Result, Ok, Err, IsErrAnd, IsOk, if◌then◌else◌}
 use Rattle.std.specs.List.{enumerate_from, range_with_len}
 use Rattle.num_order.specs.Number.{num}
 use Rattle.text_block.specs.Blocks.{code_of}
@@ -11,7 +11,6 @@ use Rattle.frame_cut.specs.Traces.{count_of, is_trace, trace_at}
 use Rattle.frame_cut.specs.BinaryHeader.{bin_bytes}
 use Rattle.frame_cut.specs.Frames.{sample_count}
 use Rattle.frame_cut.specs.Volume.{Volume, bytes_of}
-use Rattle.sample_codes.specs.Formats.{values}
 use Rattle.trace_view.specs.Values.{value_of, has_floats, sample_of, samples_of}
 use Rattle.bench_rules.specs.declared.query.Query.{Query}
 use Rattle.bench_rules.specs.declared.query.Query.TheVariants as queries
@@ -19,7 +18,7 @@ use Rattle.bench_rules.specs.declared.answer.Answer.{Answer}
 use Rattle.bench_rules.specs.declared.answer.Answer.TheVariants as answers
 use Rattle.bench_rules.specs.declared.ask_fault.AskFault.{AskFault}
 use Rattle.bench_rules.specs.declared.info.Info.{Info}
-use Rattle.bench_rules.specs.declared.ask_fault.AskFault.TheVariants.{NoTrace, NoField, NoPlace, NoSample, NoValues, OutOfMemory}
+use Rattle.bench_rules.specs.declared.ask_fault.AskFault.TheVariants.{NoTrace, NoField, NoPlace, NoSample, OutOfMemory}
 use Rattle.bench_rules.specs.FloatStatistics.{stat_of}
 use Rattle.bench_rules.specs.Places.{place_in_trace, place_in_binary, is_in_binary}
 use Rattle.bench_rules.specs.Problems.{problems_in}
@@ -31,7 +30,7 @@ use Rattle.bench_rules.specs.ManyTraces.{each_of}
 use Rattle.bench_rules.specs.Tables.{table_of, found_of}
 use Rattle.bench_rules.specs.Reports.{geometry_in, fold_in, cells_in, inlines_in, crosslines_in, histogram_in, range_in, totals_in, slice_in, faults_in}
 use Rattle.frame_cut.specs.Parts.{block_of}
-pub use Rattle.bench_rules.specs.Replies.{Reply, or_fault, of_traces}
+pub use Rattle.bench_rules.specs.Replies.{Reply, or_fault, of_traces, of_values}
 use Rattle.bench_rules.specs.ChosenQueries.{chosen_answer}
 use Rattle.bench_rules.specs.RangeRefusals.{range_refusal}
 use Rattle.bench_rules.specs.State.{State}
@@ -44,10 +43,6 @@ of_trace v p f = if is_trace v p then f (trace_at v p) else Err (NoTrace p (coun
 abbrev pub trace_value : Head → List ℕ → Option Place → Reply
 trace_value h t None = Err NoField
 trace_value h t (Some place) = or_fault (value_of h t place) NoPlace answers.Value
-
--- the reply to what needs the values of samples, where samples have any
-abbrev pub of_values : Head → Reply → Reply
-of_values h reply = if is_none (values h.format) then Err NoValues else reply
 
 -- sample k of a trace; the number named is at least the number of samples
 abbrev pub trace_sample : Head → List ℕ → ℕ → Reply

@@ -9,7 +9,7 @@ use Rattle.frame_cut.specs.Traces.{trace_at}
 use Rattle.frame_cut.specs.Volume.{Volume, bytes_of}
 use Rattle.bench_rules.specs.declared.chosen.Chosen.{Chosen}
 use Rattle.bench_rules.specs.declared.chosen_edit.ChosenEdit.{ChosenEdit}
-use Rattle.bench_rules.specs.declared.chosen_edit.ChosenEdit.TheVariants.{Nothing, Renumber, Compute, Delete}
+use Rattle.bench_rules.specs.declared.chosen_edit.ChosenEdit.TheVariants.{Nothing, Renumber, Compute, Delete, Swap}
 use Rattle.bench_rules.specs.declared.refusal.Refusal.{Refusal}
 use Rattle.bench_rules.specs.declared.refusal.Refusal.TheVariants as refusals
 use Rattle.bench_rules.specs.declared.test.Test.{Test}
@@ -18,6 +18,7 @@ use Rattle.bench_rules.specs.Conditions.{chosen, chosen_among, is_empty, range_o
 use Rattle.bench_rules.specs.ManyTraces.{each_of}
 use Rattle.bench_rules.specs.Places.{place_in_trace}
 use Rattle.bench_rules.specs.RangeRefusals.{range_refusal, first_refusal_among}
+use Rattle.bench_rules.specs.SwappedFields.{changed_each, swap_refusal, swapped, two_places}
 use Rattle.bench_rules.specs.TraceEdits.{counted, put_each}
 
 -- ---- numbers for chosen traces
@@ -30,12 +31,13 @@ counted_each first step k ps = map (λ e. (e.1, counted first step e.0)) (enumer
 abbrev pub computed_each : Volume → Formula → List ℕ → List (ℕ × ℤ)
 computed_each v f ps = filter_map (λ p. number_at p (computed_in v.head f p (trace_at v p))) ps
 
--- the numbers that the edit gives them, each with its trace, and the place of the field; nothing where the edit gives none
+-- the numbers that the edit gives one field of them, each with its trace, and the place of the field; nothing where it gives none
 abbrev pub sets_of : Volume → Pairs → ChosenEdit → List ℕ → Option (Place × List (ℕ × ℤ))
 sets_of v fields (Nothing names) ps = None
 sets_of v fields (Renumber field first step) ps = option_map (λ place. (place, counted_each first step 0 ps)) (place_in_trace fields field)
 sets_of v fields (Compute field source steps) ps = option_map (λ f. (f.place, computed_each v f ps)) (formula_of fields field source steps)
 sets_of v fields Delete ps = None
+sets_of v fields (Swap first second) ps = None
 
 -- ---- refusals
 
@@ -45,6 +47,7 @@ has_fields fields (Nothing names) = is_some (each_of (place_in_trace fields) nam
 has_fields fields (Renumber field first step) = is_some (place_in_trace fields field)
 has_fields fields (Compute field source steps) = is_some (formula_of fields field source steps)
 has_fields fields Delete = true
+has_fields fields (Swap first second) = is_some (two_places fields first second)
 
 -- what the edit refuses of these traces, where its fields have places
 abbrev pub refusal_of_edit : Volume → Pairs → ChosenEdit → List ℕ → Option Refusal
@@ -52,6 +55,8 @@ refusal_of_edit v fields (Nothing names) ps = None
 refusal_of_edit v fields (Renumber field first step) ps = first_refusal_among v (place_in_trace fields field) (counted_each first step 0 ps)
 refusal_of_edit v fields (Compute field source steps) ps = option_map_or (λ f. first_at (compute_refusal v f) ps) (formula_of fields field source steps) None
 refusal_of_edit v fields Delete ps = None
+refusal_of_edit v fields (Swap first second) ps =
+    option_map_or (λ places. first_at (λ p. swap_refusal v.head places (trace_at v p)) ps) (two_places fields first second) None
 
 -- the refusal where these are the chosen traces: E03 where a trace of the range lacks the place of a condition
 abbrev pub refusal_of_chosen : Volume → Pairs → ChosenEdit → Option (List ℕ) → Option Refusal
@@ -87,6 +92,8 @@ bytes_after_each v fields (Nothing names) ps = bytes_of v
 bytes_after_each v fields (Renumber field first step) ps = bytes_with v (sets_of v fields (Renumber field first step) ps)
 bytes_after_each v fields (Compute field source steps) ps = bytes_with v (sets_of v fields (Compute field source steps) ps)
 bytes_after_each v fields Delete ps = bytes_of (without_each v ps)
+bytes_after_each v fields (Swap first second) ps =
+    option_map_or (λ places. bytes_of (changed_each (swapped v.head places) v ps)) (two_places fields first second) (bytes_of v)
 
 -- the file's bytes after the edit of the chosen traces
 abbrev pub bytes_after_chosen : Volume → Pairs → Chosen → ChosenEdit → List ℕ

@@ -34,6 +34,8 @@ pub mod Replies
 pub mod Reports
 pub mod SetRefusals
 pub mod Sorted
+pub mod SwappedFields
+pub mod SwapExamples
 pub mod SortedExamples
 pub mod State
 pub mod Steps
@@ -43,6 +45,7 @@ pub mod TraceExamples
 pub mod WholeTraces
 pub mod OpaqueExamples
 pub mod ReadFaults
+pub mod RecordNumbers
 pub mod Slices
 pub mod SlicesOfRecords
 pub mod SliceExamples
@@ -50,3 +53,5 @@ pub mod KeptSlices
 pub mod KeptSliceExamples
 pub mod RangeFaults
 pub mod RangeRefusals
+pub mod SampleStatistics
+pub mod SampleStatisticsExamples

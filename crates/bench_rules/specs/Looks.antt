@@ -17,10 +17,12 @@ use Rattle.bench_rules.specs.declared.chosen_edit.ChosenEdit.TheVariants as chos
 use Rattle.bench_rules.specs.declared.chosen_query.ChosenQuery.{ChosenQuery}
 use Rattle.bench_rules.specs.declared.chosen_query.ChosenQuery.TheVariants as chosen_queries
 use Rattle.bench_rules.specs.Computed.{formula_of}
-use Rattle.bench_rules.specs.Conditions.{chosen, is_empty, tests_of}
+use Rattle.bench_rules.specs.declared.test.Test.{Test}
+use Rattle.bench_rules.specs.Conditions.{chosen, tests_of}
 use Rattle.bench_rules.specs.Kept.{is_kept}
 use Rattle.bench_rules.specs.ManyTraces.{each_of}
 use Rattle.bench_rules.specs.Places.{place_in_trace, leaves_length}
+use Rattle.bench_rules.specs.RecordNumbers.{tells_tests}
 use Rattle.bench_rules.specs.State.{State}
 use Rattle.sample_codes.specs.declared.value_format.ValueFormat.{ValueFormat}
 use Rattle.sample_codes.specs.Formats.{values}
@@ -66,9 +68,15 @@ abbrev pub range_looks_of : Volume → Option (ℕ × ℕ) → ℕ
 range_looks_of v None = 0
 range_looks_of v (Some r) = range_looks v r.0 r.1
 
--- the looks that choosing takes: one at each trace of the range, where there is a condition and the fields of all have places
+-- so many looks, but none where a field of a condition has no place, or the records tell both sides of each
+abbrev pub judging_looks : Pairs → Option (List Test) → ℕ → ℕ
+judging_looks fields None n = 0
+judging_looks fields (Some tests) n = if tells_tests fields tests then 0 else n
+
+-- the looks that choosing takes: one at each trace of the range, where the conditions have a field that the records do not tell, and
+-- the fields of all have places
 abbrev pub choosing_looks : Volume → Pairs → Chosen → ℕ
-choosing_looks v fields c = if is_empty c.conditions then 0 else looks_at (tests_of fields c.conditions) (range_looks_of v c.traces)
+choosing_looks v fields c = judging_looks fields (tests_of fields c.conditions) (range_looks_of v c.traces)
 
 -- the looks of an edit of so many traces; a number that the records tell needs none
 abbrev pub each_looks : Pairs → ChosenEdit → ℕ → ℕ
@@ -76,6 +84,7 @@ each_looks fields (chosen_edits.Nothing names) n = 0
 each_looks fields (chosen_edits.Renumber field first step) n = put_looks fields (place_in_trace fields field) (2 * n)
 each_looks fields (chosen_edits.Compute field source steps) n = 2 * n
 each_looks fields chosen_edits.Delete n = 0
+each_looks fields (chosen_edits.Swap first second) n = 2 * n
 
 -- the looks of a query about so many
 abbrev pub asking_looks : ChosenQuery → ℕ → ℕ
@@ -83,6 +92,7 @@ asking_looks chosen_queries.Count n = 0
 asking_looks (chosen_queries.Table fields) n = n
 asking_looks (chosen_queries.Find field low high) n = n
 asking_looks chosen_queries.Extremes n = n
+asking_looks chosen_queries.Stats n = n
 
 -- the looks at traces that are chosen, where they are
 abbrev pub looks_at_chosen : (ℕ → ℕ) → Option (List ℕ) → ℕ

@@ -98,9 +98,9 @@ value_problems fs delays no_survey =
     ++ group_lines (group_of OtherScalar (other_scalars fs))
     ++ group_lines (group_of OtherDelay (other_marks delays))
 
--- S12 and S13, of samples that are whole numbers
-abbrev pub sample_problems : List Facts → List ProblemLine
-sample_problems fs = group_lines (group_of Dead (dead_marks false fs)) ++ group_lines (group_of Loud (loud_marks false fs))
+-- S12 and S13; whether samples are floats comes first
+abbrev pub sample_problems : Bool → List Facts → List ProblemLine
+sample_problems floats fs = group_lines (group_of Dead (dead_marks floats fs)) ++ group_lines (group_of Loud (loud_marks floats fs))
 
 -- F1 to F9 and S1 to S9, of traces with these delays; where they have no survey numbers F6 and S5 to S9 say nothing, and are left out
 abbrev pub header_problems : HeadFacts → List Facts → (delays : List ℤ) → Option NoSurvey → List ProblemLine
@@ -113,7 +113,7 @@ header_problems h fs delays lone =
 -- all problems of traces with these delays, whose samples are floats or not
 abbrev pub problems_with : HeadFacts → List Facts → (delays : List ℤ) → (floats : Bool) → List ProblemLine
 problems_with h fs delays floats =
-    header_problems h fs delays (no_survey_of (inlines fs) (crosslines fs)) ++ (if floats then [] else sample_problems fs)
+    header_problems h fs delays (no_survey_of (inlines fs) (crosslines fs)) ++ sample_problems floats fs
 
 -- all that is wrong or doubtful with a volume whose traces have these records
 abbrev pub problems_of : Volume → List Facts → List ProblemLine

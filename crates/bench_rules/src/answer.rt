@@ -7,6 +7,7 @@ use crate::problem_line::ProblemLine;
 use crate::row::Row;
 use crate::table::Table;
 use crate::text::Text;
+use crate::trace_statistics::{FloatTraceStatistics, TraceStatistics};
 use fault_live::Fault;
 use field_map::Place;
 use grid_live::{Cell, FoldCount};
@@ -70,4 +71,8 @@ pub enum Answer {
     Extremes(Items<(Text, Extremes)>),
     /// How many traces were chosen.
     Chosen(u32),
+    /// What the samples of each of the traces say, in order.
+    Stats(Items<TraceStatistics>),
+    /// The same where samples are floats.
+    FloatStats(Items<FloatTraceStatistics>),
 }

@@ -26,4 +26,9 @@ pub enum ChosenEdit {
     },
     /// All of them out.
     Delete,
+    /// The numbers of the two fields of each of them in the place of one another. Refused: E02
+    /// where one of the fields has no place, then the first refusal of the lowest trace that has
+    /// one: E03 where it lacks one of the places, E04 and E06 of the second's number at the first
+    /// place, then E04 and E06 of the first's number, as it was, at the second place.
+    Swap(Field, Field),
 }

@@ -15,4 +15,6 @@ pub enum ChosenQuery {
     /// Of each named header field whose numbers in them are not all 0, the least, the greatest, the
     /// first and the last.
     Extremes,
+    /// The statistics of the samples of each of them. Refused: E12.
+    Stats,
 }

@@ -42,6 +42,7 @@ mod test;
 mod text;
 mod text_lines;
 mod trace_bytes;
+mod trace_statistics;
 
 pub use crate::answer::Answer;
 pub use crate::ask_fault::AskFault;
@@ -74,10 +75,13 @@ pub use crate::refusal::Refusal;
 pub use crate::renumber::{counted_up, renumber_refusal, values_bytes};
 pub use crate::resize::{count_refusal, resized};
 pub use crate::row::Row;
-pub use crate::samples::{float_stat, patch_refusal, sample_place, trace_sample};
+pub use crate::samples::{
+    float_stat, patch_refusal, sample_place, statistics_of_floats, trace_sample,
+};
 pub use crate::table::Table;
 pub use crate::term::Term;
 pub use crate::test::{Test, meets_all, test_of};
 pub use crate::text::Text;
 pub use crate::text_lines::is_line;
 pub use crate::trace_bytes::{all_fit, blank_length, joined, samples_bytes, zeros};
+pub use crate::trace_statistics::{FloatTraceStatistics, TraceStatistics};

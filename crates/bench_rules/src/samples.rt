@@ -7,7 +7,7 @@ ghost use Rattle.sample_codes.specs.Formats.{width};
 ghost use Rattle.trace_view.specs.Shown.{bytes_of, head_of};
 ghost use Rattle.trace_view.specs.Values.{has_floats, samples_at, samples_of};
 ghost use Rattle.bench_rules.specs.Answer.{trace_sample as sample_reply};
-ghost use Rattle.bench_rules.specs.FloatStatistics.{floats_of, stat_of};
+ghost use Rattle.bench_rules.specs.FloatStatistics.{float_statistics_of, floats_of, stat_of};
 ghost use Rattle.bench_rules.specs.Refused.{patch_refusal as refusal_of_patch};
 
 use crate::answer::Answer;
@@ -45,20 +45,25 @@ pub fn float_stat(trace: &TraceView<'_>) -> Answer
     requires { has_floats (head_of trace.now) ≡ true }
     ensures { result ≡ stat_of true (samples_of (head_of trace.now) (bytes_of trace.now)) }
 {
-    match statistics_of(trace) {
-        None => Answer::FloatStat(None),
-        Some(all) => {
-            // its number of samples has 32 bits
-            let _count = trace.sample_count();
-            Answer::FloatStat(Some(FloatStatistics {
-                least: all.least,
-                greatest: all.greatest,
-                sum: rank_of(float_sum(trace.samples())),
-                number: all.number,
-                no_numbers: all.sum,
-            }))
-        }
-    }
+    Answer::FloatStat(statistics_of_floats(trace))
+}
+
+/// The statistics of the samples of the trace, which are floats, in two passes over them; none
+/// without samples.
+pub fn statistics_of_floats(trace: &TraceView<'_>) -> Option<FloatStatistics>
+    requires { has_floats (head_of trace.now) ≡ true }
+    ensures { result ≡ float_statistics_of (samples_of (head_of trace.now) (bytes_of trace.now)) }
+{
+    let all = statistics_of(trace)?;
+    // its number of samples has 32 bits
+    let _count = trace.sample_count();
+    Some(FloatStatistics {
+        least: all.least,
+        greatest: all.greatest,
+        sum: rank_of(float_sum(trace.samples())),
+        number: all.number,
+        no_numbers: all.sum,
+    })
 }
 
 // The exact sum of those samples that are numbers, rounded once.

@@ -9,9 +9,10 @@ use Rattle.frame_cut.specs.Volume.{Volume}
 use Rattle.bench_rules.specs.declared.chosen.Chosen.{Chosen}
 use Rattle.bench_rules.specs.declared.condition.Condition.{Condition}
 use Rattle.bench_rules.specs.declared.test.Test.{Test}
-use Rattle.bench_rules.specs.Conditions.{AreRising, chosen, chosen_among, is_empty, judged, meets, range_of, tests_of}
-use Rattle.bench_rules.specs.Looks.{looks_at, range_looks, range_looks_of}
+use Rattle.bench_rules.specs.Conditions.{AreRising, chosen, chosen_among, judged, meets, range_of, tests_of}
+use Rattle.bench_rules.specs.Looks.{choosing_looks, judging_looks, looks_at, range_looks, range_looks_of}
 use Rattle.bench_rules.specs.ManyTraces.{each_of}
+use Rattle.bench_rules.specs.RecordNumbers.{tells_tests}
 use Rattle.bench_rules.specs.RangeRefusals.{no_trace, no_trace_from, range_refusal}
 use Rattle.bench_rules.proofs.ChosenLemmas.{rising-earlier, rising-few, rising-wider}
 use Rattle.bench_rules.proofs.EachLemmas.{each_stops, next_position}
@@ -69,23 +70,9 @@ all-picked (p ∷ ps) = ap (λ qs. p ∷ qs) (all-picked ps)
 pub all_chosen : (v : Volume) (ps : List ℕ) → chosen_among v [] ps ≡ Some ps
 all_chosen v ps = ap (λ o. option_map picked o) (all-judged v ps) ∙ ap (λ qs. Some qs) (all-picked ps)
 
--- there are as many conditions with places as without
-pub as_empty : {A B : Type 0} (f : A → Option B) (xs : List A) (ys : List B) → each_of f xs ≡ Some ys → is_empty xs ≡ is_empty ys
-as_empty {A = A} {B = B} f [] ys e = let none : [] ≡ ys = cc in ap (λ (zs : List B). is_empty zs) none
-as_empty {A = A} {B = B} f (x ∷ xs) ys e = by (f x) (each_of f xs) e
-  where
-    by : (o : Option B) (rest : Option (List B)) → option_and_then (λ y. option_map (λ zs. y ∷ zs) rest) o ≡ Some ys → false ≡ is_empty ys
-    by None rest g = absurd cc
-    by (Some y) None g = absurd cc
-    by (Some y) (Some zs) g = let is : y ∷ zs ≡ ys = cc in ap (λ (us : List B). is_empty us) is
-
 pub no_items : {X : Type 0} (xs : List X) → length xs ≡ 0 → xs ≡ []
 no_items [] e = refl
 no_items (x ∷ xs) e = absurd (omega (arith, e))
-
-pub some_items : {X : Type 0} (xs : List X) → 0 < length xs → is_empty xs ≡ false
-some_items [] less = absurd (omega (arith, less))
-some_items (x ∷ xs) less = refl
 
 -- ---- trace by trace
 
@@ -178,6 +165,19 @@ module _ (v : Volume) (pairs : Pairs) (c : Chosen) (conditions : List Condition)
   chosen_all ps none is =
       chosen_there ∙ ap (λ (ts : List Test). chosen_among v ts (range_with_len r.0 (r.1 + 1 - r.0))) (no_items tests none)
       ∙ all_chosen v (range_with_len r.0 (r.1 + 1 - r.0)) ∙ ap (λ qs. Some qs) (sym is)
+
+  -- so many are looked at
+  pub looked_there : range_refusal v (Some r) ≡ None → choosing_looks v pairs c ≡ (if tells_tests pairs tests then 0 else r.1 + 1 - r.0)
+  looked_there free =
+      ap (λ (o : Option (List Test)). judging_looks pairs o (range_looks_of v c.traces)) (ap (λ (cs : List Condition). tests_of pairs cs) (sym same) ∙ e)
+      ∙ ap (λ (n : ℕ). if tells_tests pairs tests then 0 else n) (ap (λ (range : Option (ℕ × ℕ)). range_looks_of v range) there ∙ range_looks_there v r free)
+
+  -- one at least, where the records do not tell all
+  pub some_there : range_refusal v (Some r) ≡ None → tells_tests pairs tests ≡ false → 0 < choosing_looks v pairs c
+  some_there free untold =
+      let t = range_there v r free in
+      let looks : choosing_looks v pairs c ≡ r.1 + 1 - r.0 = looked_there free ∙ ap (λ (b : Bool). if b then 0 else r.1 + 1 - r.0) untold in
+      omega (arith, looks, t.high)
 
   -- and no more than the range has
   pub few_there : (ps : List ℕ) → range_refusal v (Some r) ≡ None → AreRising r.0 r.1 ps → length ps ≤ looks_at (tests_of pairs c.conditions) (range_looks_of v c.traces)

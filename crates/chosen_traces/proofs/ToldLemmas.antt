@@ -21,8 +21,8 @@ use Rattle.bench_rules.specs.State.{State}
 use Rattle.chosen_traces.specs.Choosing.{choosing_fault, fault_under, fault_without}
 
 -- the looks of a query where these are chosen
-looks-chosen : (v : Volume) (pairs : Pairs) (c : Chosen) (q : ChosenQuery) (ps : List ℕ) → chosen v pairs c ≡ Some ps → chosen_query_looks v pairs c q ≡ choosing_looks v pairs c + asking_looks q (length ps)
-looks-chosen v pairs c q ps e = ap (λ o. choosing_looks v pairs c + looks_at_chosen (asking_looks q) o) e
+pub looks_chosen : (v : Volume) (pairs : Pairs) (c : Chosen) (q : ChosenQuery) (ps : List ℕ) → chosen v pairs c ≡ Some ps → chosen_query_looks v pairs c q ≡ choosing_looks v pairs c + asking_looks q (length ps)
+looks_chosen v pairs c q ps e = ap (λ o. choosing_looks v pairs c + looks_at_chosen (asking_looks q) o) e
 
 -- more traces are no fewer looks
 asking-more : (q : ChosenQuery) (n m : ℕ) → n ≤ m → asking_looks q n ≤ asking_looks q m
@@ -30,6 +30,7 @@ asking-more about.Count n m less = omega arith
 asking-more (about.Table fields) n m less = less
 asking-more (about.Find field low high) n m less = less
 asking-more about.Extremes n m less = less
+asking-more about.Stats n m less = less
 
 -- what is told where the traces of the range are there
 abbrev after_range : Volume → Pairs → Chosen → ChosenQuery → Reply

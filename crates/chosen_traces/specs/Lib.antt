@@ -1,3 +1,4 @@
 pub mod Choosing
 pub mod Gathered
+pub mod RecordTests
 pub mod Retold

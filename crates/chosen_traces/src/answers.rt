@@ -1,18 +1,21 @@
 // The answers to queries about the traces that conditions choose.
-ghost use Rattle.std.specs.Prelude.{◌≡◌, ◌⊎◌, ◌+◌, ◌<◌, None, Ok, Err, IsTrue, IfOk, IfErr, length};
+ghost use Rattle.std.specs.Prelude.{◌≡◌, ◌⊎◌, ◌+◌, ◌<◌, None, Ok, Err, IsTrue, IfOk, IfErr, length, map as map_of};
 ghost use Rattle.frame_cut.specs.Traces.{count_of};
+ghost use Rattle.trace_record.specs.Packed.{record_in};
 ghost use Rattle.edit_overlay.specs.CountedVolume.{IsSeen, RisesAtMost};
 ghost use Rattle.bench_rules.specs.declared.ask_fault.AskFault.TheVariants.{OutOfMemory as no_memory};
 ghost use Rattle.bench_rules.specs.declared.query.Query.TheVariants as queries;
 ghost use Rattle.bench_rules.specs.Answer.{IsReply, Reply};
 ghost use Rattle.bench_rules.specs.ChosenQueries.{answer_of_each, asks_for_fields as asks_for_fields_of, found_answer_of_each, of_range};
 ghost use Rattle.bench_rules.specs.Conditions.{AreRising};
+ghost use Rattle.bench_rules.specs.Live.{AreRecordsOf};
 ghost use Rattle.bench_rules.specs.Looks.{asking_looks, chosen_query_looks, most_query_looks};
 ghost use Rattle.bench_rules.specs.Places.{place_in_trace as place_of_field};
 ghost use Rattle.bench_rules.specs.RangeFaults.{or_fault};
 ghost use Rattle.bench_rules.specs.RangeRefusals.{range_refusal};
 ghost use Rattle.bench_rules.specs.ReadFaults.{IsReadFault};
 ghost use Rattle.bench_rules.specs.State.{State};
+ghost use Rattle.chosen_traces.specs.RecordTests.{HasRecords};
 
 use crate::choosing::choose;
 use bench_rules::{Answer, AskFault, Chosen, ChosenQuery, Field, place_in_trace, range_fault};
@@ -20,13 +23,15 @@ use edit_overlay::Overlay;
 use field_map::FieldMap;
 use header_answers::{extremes_among, found_among, named_places};
 use many_traces::{have_places, table_among};
+use sample_answers::stats_among;
 use std::alloc::Global;
 use trace_record::PackedRecord;
 
-/// What is asked of the traces that are chosen. Looks once at each trace of the range, where there
-/// is a condition, to choose them, and then once at most at each of them; at none where the range
-/// is refused or a field has no place. Takes memory. Refused: E01, else E02, E03, and E11 in the
-/// place of any of these. On disk also where a trace could not be read (E14, E15).
+/// What is asked of the traces that are chosen. Looks once at each trace of the range to choose
+/// them, where the records do not tell all numbers of the conditions, and then once at most at each
+/// of them; at none where the range is refused or a field has no place. Takes memory. Refused: E01,
+/// else E02, E03, and E11 in the place of any of these. On disk also where a trace could not be
+/// read (E14, E15).
 pub fn chosen_answer(
     alloc: Global,
     overlay: &mut Overlay<PackedRecord>,
@@ -36,12 +41,14 @@ pub fn chosen_answer(
 ) -> Result<Answer, AskFault>
     ensures reply { (s : State) → s.volume ≡ overlay.old.volume → s.fields ≡ map.now.pairs →
         s.on_disk ≡ overlay.old.loaded.on_disk → IsTrue overlay.new.agreed →
+        AreRecordsOf s (map_of record_in overlay.old.payloads) →
         IsReply s (queries.OfChosen chosen.now query.now) result }
 
     // Where the reads do not agree, others may have been chosen, but none that is not of the range.
     ensures seen { IsSeen overlay.old overlay.new
         (most_query_looks overlay.old.volume map.now.pairs chosen.now query.now) }
-    ensures looks { IsTrue overlay.new.agreed → RisesAtMost overlay.old.looks overlay.new.looks
+    ensures looks { IsTrue overlay.new.agreed → HasRecords overlay.old map.now.pairs →
+        RisesAtMost overlay.old.looks overlay.new.looks
         (chosen_query_looks overlay.old.volume map.now.pairs chosen.now query.now) }
 {
     if let Some(fault) = fault_of_range(overlay, chosen) {
@@ -74,7 +81,7 @@ fn asks_for_fields(map: &FieldMap, query: &ChosenQuery) -> bool
     ensures { result ≡ asks_for_fields_of map.now.pairs query.now }
 {
     match query {
-        ChosenQuery::Count | ChosenQuery::Extremes => true,
+        ChosenQuery::Count | ChosenQuery::Extremes | ChosenQuery::Stats => true,
         ChosenQuery::Table(fields) => have_places(map, fields.as_slice()),
         ChosenQuery::Find(field, _low, _high) => place_in_trace(map, field).is_some(),
     }
@@ -117,6 +124,7 @@ fn told(
             let extremes = extremes_among(alloc, overlay, traces.as_slice(), names)?;
             Ok(Answer::Extremes(extremes))
         }
+        ChosenQuery::Stats => stats_among(alloc, overlay, traces.as_slice()),
     }
 }
 

@@ -1,5 +1,5 @@
 // The list of the traces that conditions choose.
-ghost use Rattle.std.specs.Prelude.{◌≡◌, ◌⊎◌, ◌+◌, ◌-◌, ◌<◌, ◌≤◌, [], ◌∷◌, ◌++◌, length, None, Some, IsTrue, IfOk, IfErr, OnOk, if◌then◌else◌};
+ghost use Rattle.std.specs.Prelude.{◌≡◌, ◌⊎◌, ◌+◌, ◌-◌, ◌<◌, ◌≤◌, [], ◌∷◌, ◌++◌, length, None, Some, IsTrue, IfOk, IfErr, OnOk, false, if◌then◌else◌};
 ghost use Rattle.std.specs.List.{range_with_len};
 ghost use Rattle.frame_cut.specs.Traces.{count_of, is_trace, trace_at};
 ghost use Rattle.edit_overlay.specs.CountedVolume.{IsSeen};
@@ -8,8 +8,12 @@ ghost use Rattle.bench_rules.specs.Conditions.{chosen as chosen_traces, chosen_a
 ghost use Rattle.bench_rules.specs.Looks.{choosing_looks, most_chosen};
 ghost use Rattle.bench_rules.specs.RangeRefusals.{range_refusal};
 ghost use Rattle.bench_rules.specs.ReadFaults.{IsReadFault};
+ghost use Rattle.bench_rules.specs.RecordNumbers.{tells_tests};
 ghost use Rattle.chosen_traces.specs.Choosing.{choosing_fault};
+ghost use Rattle.chosen_traces.specs.RecordTests.{HasRecords};
 
+use crate::by_records::chosen_by_records;
+use crate::record_tests::record_tests;
 use bench_rules::{AskFault, Chosen, Condition, Test, meets_all, test_of};
 use edit_overlay::{Overlay, ReadFault};
 use field_map::FieldMap;
@@ -17,9 +21,9 @@ use std::alloc::{AllocError, Global};
 use trace_record::PackedRecord;
 
 /// The traces of the range that meet all conditions, in order. Looks once at each trace of the
-/// range, where there is a condition and their fields have places. Takes memory. Refused: E02 where
-/// a field has no place, E03 where a trace lacks one; E11 may come in the place of either. On disk
-/// also where a trace could not be read (E14, E15).
+/// range, where the fields of the conditions have places, of which the records do not tell one.
+/// Takes memory. Refused: E02 where a field has no place, E03 where a trace lacks one; E11 may come
+/// in the place of either. On disk also where a trace could not be read (E14, E15).
 pub fn choose(
     alloc: Global,
     overlay: &mut Overlay<PackedRecord>,
@@ -28,6 +32,7 @@ pub fn choose(
 ) -> Result<Vec<u32>, AskFault>
     requires { range_refusal overlay.old.volume chosen.now.traces ≡ None }
     ensures ok { IfOk result (λ traces. IsTrue overlay.new.agreed →
+        HasRecords overlay.old map.now.pairs →
         chosen_traces overlay.old.volume map.now.pairs chosen.now ≡ Some traces.items) }
     ensures rising { IfOk result (λ traces. AreRising 1 (count_of overlay.old.volume)
         traces.items) }
@@ -48,7 +53,38 @@ pub fn choose(
     if tests.len() == 0 {
         return Ok(all(alloc, first, last)?);
     }
-    chosen_from(alloc, overlay, first, last, tests.as_slice())
+    chosen_of(alloc, overlay, map, first, last, tests.as_slice())
+}
+
+// Those of traces a to b that meet all conditions: by their records, where these tell both sides of
+// each, else in one look at each trace.
+fn chosen_of(
+    alloc: Global,
+    overlay: &mut Overlay<PackedRecord>,
+    map: &FieldMap,
+    a: u32,
+    b: u32,
+    tests: &[Test],
+) -> Result<Vec<u32>, AskFault>
+    requires first { 1 ≤ a }
+    requires range { a ≤ b }
+    requires last { b ≤ count_of overlay.old.volume }
+    ensures ok { IfOk result (λ traces. IsTrue overlay.new.agreed →
+        HasRecords overlay.old map.now.pairs → chosen_among overlay.old.volume tests.now
+        (range_with_len a (b + 1 - a)) ≡ Some traces.items) }
+    ensures rising { IfOk result (λ traces. AreRising a b traces.items) }
+    ensures err { IfErr result (λ fault. (fault ≡ no_memory) ⊎
+        (IsReadFault overlay.old.loaded.on_disk fault
+        × (tells_tests map.now.pairs tests.now ≡ false)) ⊎
+        ((fault ≡ no_place) × (IsTrue overlay.new.agreed → chosen_among overlay.old.volume
+        tests.now (range_with_len a (b + 1 - a)) ≡ None))) }
+    ensures seen { IsSeen overlay.old overlay.new
+        (if tells_tests map.now.pairs tests.now then 0 else b + 1 - a) }
+{
+    match record_tests(alloc, map, tests)? {
+        Some(told) => Ok(chosen_by_records(alloc, overlay, a, b, told.as_slice())?),
+        None => chosen_from(alloc, overlay, a, b, tests),
+    }
 }
 
 // The conditions with the places of their fields: E02 where one has none.
@@ -113,7 +149,7 @@ fn chosen_from(
 }
 
 // Puts the trace behind others, where it is chosen.
-fn keep(traces: &mut Vec<u32>, p: u32, is_chosen: bool) -> Result<(), AllocError>
+pub(crate) fn keep(traces: &mut Vec<u32>, p: u32, is_chosen: bool) -> Result<(), AllocError>
     ensures { OnOk result (traces.new.items ≡ (if is_chosen then traces.old.items ++ p ∷ []
         else traces.old.items)) }
 {

@@ -3,15 +3,18 @@
 //! edit of traces that follow one another is one of any traces.
 //!
 //! Traces count from 1. Each call takes memory in step with the list. `choose` looks once at each
-//! trace of its range where there is a condition, else at none, and `chosen_answer` then once at
-//! most at each that is chosen; they leave the volume and what is prepared as they are. Where the
-//! bytes of the volume are on disk, both are also refused where a trace could not be read, E14 or
-//! E15, and what they say of numbers holds if each read since the load agreed.
+//! trace of its range where the records beside the traces do not tell all numbers of the
+//! conditions, else at none, and `chosen_answer` then once at most at each that is chosen; they
+//! leave the volume and what is prepared as they are. Where the bytes of the volume are on disk,
+//! both are also refused where a trace could not be read, E14 or E15, and what they say of numbers
+//! holds if each read since the load agreed.
 #![tactic(auto)]
 
 mod answers;
+mod by_records;
 mod choosing;
 mod exchanges;
+mod record_tests;
 mod retelling;
 
 pub use crate::answers::chosen_answer;

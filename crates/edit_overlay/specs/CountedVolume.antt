@@ -7,6 +7,10 @@ use Rattle.edit_overlay.specs.Loaded.{Loaded}
 use Rattle.trace_view.specs.declared.view.TraceView.{TraceView}
 use Rattle.trace_view.specs.Shown.{head_of, bytes_of}
 
+-- the volume with other traces
+abbrev pub with_traces : Volume → List (List ℕ) → Volume
+with_traces v ts = record v { traces = ts }
+
 -- a volume and the payload of each of its traces, both as they would be with the edit that is prepared (the same where
 -- none is), how often traces were looked at, the bytes that were loaded and whether they are on disk, and whether each read of
 -- them since the load gave the bytes that the load read: in memory it does

@@ -13,10 +13,10 @@
 //! `volume_loading` makes an overlay of a file ([`Overlay::new`]). Where a file that stays on disk
 //! is refused, a [`PassFault`] has the bytes that were read.
 //!
-//! `put` and `put_each`, and what prepares them, take memory for the runs of the traces that they
-//! change; `insert` for one slot, for what holds its bytes, and for room in the order, `move_to`
-//! and `prepare_move` for room in the order. Each of them may be refused for want of memory, and
-//! then nothing is changed. No other call takes any.
+//! `prepare_put` and `prepare_put_each` take memory for the runs of the traces that they change;
+//! `insert` for one slot, for what holds its bytes, and for room in the order, `move_to` and
+//! `prepare_move` for room in the order. Each of them may be refused for want of memory, and then
+//! nothing is changed. No other call takes any.
 //!
 //! A put or a move has two parts for a caller that has to show its outcome first, or to take memory
 //! elsewhere too: `prepare_put`, `prepare_put_each` and `prepare_move` take all the memory and

@@ -1,11 +1,12 @@
-ghost use Rattle.std.specs.Prelude.{ℕ, ◌≡◌, ◌⊎◌, ◌↔◌, ◌+◌, ◌-◌, ◌/◌, ◌%◌, ◌≤◌, ◌<◌, ◌^◌, false, [], length, slice_index_or, option_map, slice_get, slice_set, map, Some, IfOk, IfErr, IfSome, IsSome, IsTrue, OnOk, OnErr, MatchResult};
+ghost use Rattle.std.specs.Prelude.{ℕ, ◌≡◌, ◌⊎◌, ◌↔◌, ◌+◌, ◌-◌, ◌/◌, ◌%◌, ◌≤◌, ◌<◌, ◌^◌, false, [], length, slice_index_or, option_map, slice_get, slice_set, map, Some, All, IfOk, IfErr, IfSome, IsSome, IsTrue, OnOk, OnErr, MatchResult};
 ghost use Rattle.std.specs.Borrow.{sem};
 ghost use Rattle.frame_cut.specs.Cuts.{IsTrace};
 ghost use Rattle.frame_cut.specs.Splice.{splice};
 ghost use Rattle.frame_cut.specs.Traces.{count_of, is_trace, trace_at, with_trace};
 ghost use Rattle.frame_cut.specs.Volume.{bytes_of};
+ghost use Rattle.trace_seq.specs.Without.{taken_out, without_each, AreRising};
 ghost use Rattle.trace_store.specs.Each.{part_of};
-ghost use Rattle.edit_overlay.specs.CountedVolume.{with_prepared, with_table, with_table_prepared, with_volume};
+ghost use Rattle.edit_overlay.specs.CountedVolume.{with_prepared, with_table, with_table_prepared, with_traces, with_volume};
 ghost use Rattle.trace_store.specs.Stores.{payloads_moved, payloads_of};
 ghost use Rattle.trace_store.specs.Swapped.{with_places_swapped, with_swapped, ArePlaces};
 ghost use Rattle.std.specs.List.{insert, remove};
@@ -27,6 +28,9 @@ use text_block::TEXT_BLOCK_BYTES;
 use trace_store::{Base, Column, OutOfMemory, TraceStore};
 use trace_view::TraceView;
 
+// How many traces are brought nearer at once.
+const AHEAD: u32 = 32;
+
 /// A volume under edits: one SEG-Y file in its parts. The bytes that were loaded never change:
 /// edits lie over them.
 #[derive(Drop)]
@@ -39,6 +43,9 @@ pub struct Overlay<T: Copy> {
     tail: u64,
     length: u64,
     looks: u64,
+
+    // All bytes that were read ahead in one: what is not kept is not read.
+    seen: u8,
 }
 
 impl<T: Copy> Model for Overlay<T> {
@@ -93,6 +100,7 @@ impl<T: Copy> Overlay<T> {
             tail,
             length,
             looks,
+            seen: 0,
         }
     }
 
@@ -187,12 +195,16 @@ impl<T: Copy> Overlay<T> {
         self.laid.prepared = None;
     }
 
-    /// Brings byte `at`, counted from 0, of each of the next traces from trace p on nearer to the
-    /// processor, where they are in memory and have it: for a caller that is to look at them one
-    /// after another, and needs of each what stands there. Shows nothing, and takes no memory. All
-    /// bytes that were read in one: what is not kept is not read.
-    pub fn read_ahead(&self, p: u32, at: u64) -> u8 {
-        self.laid.store.read_ahead(p, at)
+    /// Before each 32nd trace, of which trace 1 is the first, brings byte `at`, counted from 0, of
+    /// each of the next 32 traces from trace p on nearer to the processor, where they are in memory
+    /// and have it: for a caller that is to look at them one after another, and needs of each what
+    /// stands there. Shows nothing, changes nothing, and takes no memory.
+    pub fn read_ahead(&mut self, p: u32, at: u64)
+        ensures { self.new ≡ self.old }
+    {
+        if p % AHEAD == 1 {
+            self.seen ^= self.laid.store.read_ahead(p, at);
+        }
     }
 
     /// The payloads of all traces, in order. Looks at no trace, and takes no memory.
@@ -309,9 +321,9 @@ impl<T: Copy> Overlay<T> {
         self.laid.prepared = None;
     }
 
-    /// Prepares a `put` of the bytes over those of trace p, counted from 1, from place `at` on,
-    /// counted from 0 in the trace, in place of what was prepared before. The volume stays as it
-    /// is. The caller shows that the trace's headers give it the same length then. Takes memory in
+    /// Prepares to lay the bytes over those of trace p, counted from 1, from place `at` on, counted
+    /// from 0 in the trace, in place of what was prepared before. The volume stays as it is. The
+    /// caller shows that the trace's headers give it the same length then. Takes memory in
     /// step with all that edits laid over the trace; may be refused for want of memory alone, and
     /// then nothing is changed.
     pub fn prepare_put(
@@ -335,11 +347,11 @@ impl<T: Copy> Overlay<T> {
         Ok(())
     }
 
-    /// Prepares a `put_each` of the bytes, `size` of them over each trace, over the traces from
-    /// trace a on, which counts from 1; in each from place `at` on, counted from 0 in the trace; in
-    /// place of what was prepared before. The volume stays as it is. The caller shows that each
-    /// trace's headers give it the same length then. Takes memory in step with all that edits laid
-    /// over these traces; may be refused for want of memory alone, and then nothing is changed.
+    /// Prepares to lay the bytes, `size` of them over each trace, over the traces from trace a on,
+    /// which counts from 1; in each from place `at` on, counted from 0 in the trace; in place of
+    /// what was prepared before. The volume stays as it is. The caller shows that each trace's
+    /// headers give it the same length then. Takes memory in step with all that edits laid over
+    /// these traces; may be refused for want of memory alone, and then nothing is changed.
     pub fn prepare_put_each(
         &mut self,
         alloc: Global,
@@ -416,57 +428,6 @@ impl<T: Copy> Overlay<T> {
         self.laid.prepared = None;
     }
 
-    /// Lays the bytes over those of trace p, counted from 1, from place `at` on, counted from 0 in
-    /// the trace. The caller shows that the trace's headers give it the same length then. Takes
-    /// memory in step with all that edits laid over the trace; may be refused for want of memory
-    /// alone, and then nothing is changed.
-    pub fn put(&mut self, alloc: Global, p: u32, at: u64, bytes: &[u8]) -> Result<(), OutOfMemory>
-        requires first { 1 ≤ p }
-        requires last { p ≤ count_of self.old.volume }
-        requires inside { at + length bytes.now ≤ length (trace_at self.old.volume p) }
-        requires whole { IsTrue self.old.agreed → IsTrace self.old.volume.head
-            (splice (trace_at self.old.volume p) at (length bytes.now) bytes.now) }
-        ensures ok { OnOk result (self.new ≡ with_volume self.old (with_trace self.old.volume p
-            (splice (trace_at self.old.volume p) at (length bytes.now) bytes.now))) }
-        ensures err { OnErr result (self.new ≡ self.old) }
-    {
-        self.prepare_put(alloc, p, at, bytes)?;
-        self.commit();
-        Ok(())
-    }
-
-    /// Lays the bytes, `size` of them over each trace, over the traces from trace a on, which
-    /// counts from 1; in each from place `at` on, counted from 0 in the trace. The caller shows
-    /// that each trace's headers give it the same length then. Takes memory in step with all that
-    /// edits laid over these traces; may be refused for want of memory alone, and then none of them
-    /// is changed.
-    pub fn put_each(
-        &mut self,
-        alloc: Global,
-        a: u32,
-        at: u64,
-        size: u32,
-        bytes: &[u8],
-    ) -> Result<(), OutOfMemory>
-        requires first { 1 ≤ a }
-        requires some { 0 < size }
-        requires exact { length bytes.now % size ≡ 0 }
-        requires last { a - 1 + length bytes.now / size ≤ count_of self.old.volume }
-        requires inside { (k : ℕ) → k < length bytes.now / size →
-            at + size ≤ length (slice_index_or self.old.volume.traces (a - 1 + k) []) }
-        requires whole { (k : ℕ) → k < length bytes.now / size → IsTrue self.old.agreed →
-            IsTrace self.old.volume.head
-            (splice (slice_index_or self.old.volume.traces (a - 1 + k) []) at size
-            (part_of bytes.now size k)) }
-        ensures ok { OnOk result
-            (self.new ≡ with_volume self.old (with_each self.old.volume a at size bytes.now)) }
-        ensures err { OnErr result (self.new ≡ self.old) }
-    {
-        self.prepare_put_each(alloc, a, at, size, bytes)?;
-        self.commit();
-        Ok(())
-    }
-
     /// Puts a new trace of these bytes in front of trace p, or behind the last where p is one more
     /// than their number. The caller shows that its headers give it its length, and that there are
     /// fewer than 2^32 traces and 2^64 bytes then. May be refused for want of memory alone, and
@@ -510,6 +471,26 @@ impl<T: Copy> Overlay<T> {
         self.laid.prepared = None;
         self.length -= gone;
         payload
+    }
+
+    /// Takes these traces out, which count from 1 and rise; the others stay in their order. That is
+    /// what it is to take them out one after the other, the last of them first. Takes no memory.
+    pub fn delete_each(&mut self, traces: &[u32])
+        requires rising { AreRising 1 traces.now }
+        requires last { All (λ p. p ≤ count_of self.old.volume) traces.now }
+        ensures after { self.new ≡ with_table self.old (with_traces self.old.volume
+            (without_each self.old.volume.traces traces.now))
+            (without_each self.old.payloads traces.now) }
+        ensures one_by_one { without_each self.old.volume.traces traces.now
+            ≡ taken_out self.old.volume.traces traces.now }
+        ensures payloads_one_by_one { without_each self.old.payloads traces.now
+            ≡ taken_out self.old.payloads traces.now }
+    {
+        let length = self.length;
+        let gone = self.laid.store.length_of_each(traces);
+        self.laid.store.delete_each(traces);
+        self.laid.prepared = None;
+        self.length = length - gone;
     }
 
     /// Takes trace a out, and puts it in again so that it is trace b; both count from 1. May be

@@ -3,3 +3,4 @@ pub mod BesideLemmas
 pub mod SmallLemmas
 pub mod EditLemmas
 pub mod ExchangeLemmas
+pub mod RemoveLemmas

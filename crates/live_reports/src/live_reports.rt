@@ -1,5 +1,6 @@
 ghost use Rattle.std.specs.Prelude.{◌≡◌, ◌<◌, ◌≤◌, ◌+◌, List, length, drop, map, slice_set, All, IfOk, OnOk, OnErr, IsOk};
 ghost use Rattle.std.specs.List.{insert, remove};
+ghost use Rattle.trace_seq.specs.Without.{taken_out, AreRising};
 ghost use Rattle.trace_record.specs.Facts.{facts_of};
 ghost use Rattle.trace_record.specs.Tally.{tally_of, Same};
 ghost use Rattle.trace_record.specs.declared.record.Record.{Record};
@@ -166,6 +167,23 @@ impl LiveReports {
             unreachable!()
         };
         self.values.remove(&record);
+    }
+
+    /// No longer counts the records at these positions, which count from 1 and rise: they go, the
+    /// last of them first. Takes no memory.
+    pub fn remove_each(&mut self, records: &Records, positions: &[u32])
+        requires counted { AreReportsOf self.old records.now }
+        requires rising { AreRising 1 positions.now }
+        requires last { All (λ p. p ≤ length records.now) positions.now }
+        ensures { AreReportsOf self.new (taken_out records.now positions.now) }
+    {
+        for k in 0..positions.len() {
+            let place = positions[positions.len() - 1 - k] as usize - 1;
+            let Some(record) = records.get(place) else {
+                unreachable!()
+            };
+            self.values.remove(&record);
+        }
     }
 }
 

@@ -26,6 +26,7 @@ use Rattle.bench_rules.specs.Places.{place_in_trace}
 use Rattle.bench_rules.specs.ReadFaults.{IsReadRefusal}
 use Rattle.bench_rules.specs.Refused.{first_refusal}
 use Rattle.bench_rules.specs.State.{State}
+use Rattle.bench_rules.specs.SwappedFields.{two_places}
 use Rattle.bench_rules.specs.Steps.{IsAfter, Step, StepUnless, FailsToRead}
 use Rattle.bench_rules.proofs.ChosenLemmas.{rising-few}
 use Rattle.bench_rules.proofs.ManyValueLemmas.{IsRead}
@@ -51,6 +52,11 @@ empty_none s (each.Compute f source steps) = by (formula_of s.fields f source st
     by None = refl
     by (Some g) = refl
 empty_none s each.Delete = refl
+empty_none s (each.Swap first second) = by (two_places s.fields first second)
+  where
+    by : (o : Option (Place × Place)) → option_map_or (λ (places : Place × Place). let r : Option Refusal = None in r) o None ≡ None
+    by None = refl
+    by (Some places) = refl
 
 pub empty_cut : (s : State) (edit : ChosenEdit) → IsRead s → IsCut (bytes_after_each s.volume s.fields edit []) s.reading s.limits s.volume
 empty_cut s (each.Nothing names) read = read
@@ -65,6 +71,11 @@ empty_cut s (each.Compute f source steps) read = by (formula_of s.fields f sourc
     by None e = rw e read
     by (Some g) e = rw e read
 empty_cut s each.Delete read = read
+empty_cut s (each.Swap first second) read = by (two_places s.fields first second) refl
+  where
+    by : (o : Option (Place × Place)) → two_places s.fields first second ≡ o → IsCut (bytes_after_each s.volume s.fields (each.Swap first second) []) s.reading s.limits s.volume
+    by None e = rw e read
+    by (Some places) e = rw e read
 
 -- a list without items
 pub is_nothing : (ps : List ℕ) → length ps ≡ 0 → ps ≡ []

@@ -10,3 +10,5 @@ mod BlockLemmas
 mod MappingLemmas
 mod ChosenLemmas
 mod ChosenEachLemmas
+pub mod TakenLemmas
+mod SwapLemmas

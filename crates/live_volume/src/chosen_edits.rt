@@ -22,6 +22,7 @@ use crate::live_volume::LiveVolume;
 use bench_rules::{AskFault, Chosen, ChosenEdit, Field, Operand, Operator, Refusal, term_of};
 use chosen_traces::{choose, exchanges_back, exchanges_to_front, retold};
 use many_traces::{have_places, have_terms};
+use record_table::Records;
 use std::alloc::Global;
 
 impl LiveVolume {
@@ -91,6 +92,9 @@ impl LiveVolume {
                     && have_terms(&self.fields, steps.as_slice())
             }
             ChosenEdit::Delete => true,
+            ChosenEdit::Swap(first, second) => {
+                self.place_in_trace(first).is_some() && self.place_in_trace(second).is_some()
+            }
         }
     }
 
@@ -134,6 +138,7 @@ impl LiveVolume {
                 self.delete_each(traces);
                 Ok(())
             }
+            ChosenEdit::Swap(first, second) => self.swap_each(alloc, traces, first, second),
         }
     }
 
@@ -236,7 +241,7 @@ impl LiveVolume {
         }
     }
 
-    // These traces out, the last of them first.
+    // These traces out, as if the last of them went first.
     fn delete_each(&mut self, traces: &[u32])
         requires { AreRising 1 (count_of self.old.state.volume) traces.now }
         ensures volume { self.new.state ≡ with_volume self.old.state
@@ -245,9 +250,9 @@ impl LiveVolume {
         ensures loaded { self.new.loaded ≡ self.old.loaded }
         ensures looks { self.new.looks ≡ self.old.looks }
     {
-        for k in 0..traces.len() {
-            self.take_out(traces[traces.len() - 1 - k]);
-        }
+        self.reports
+            .remove_each(&Records::new(self.overlay.payloads()), traces);
+        self.overlay.delete_each(traces);
     }
 }
 

@@ -35,6 +35,7 @@ mod number_edits;
 mod on_disk;
 mod report_queries;
 mod sort_edit;
+mod swap_edit;
 mod trace_edits;
 mod volume_edits;
 

@@ -2,6 +2,7 @@ pub mod RowsLemmas
 mod ListedRowsLemmas
 pub mod FormulaLemmas
 pub mod NumbersLemmas
+pub mod SwappedLemmas
 mod NearLemmas
 mod BlockLemmas
 pub mod ExchangeLemmas

@@ -1,3 +1,4 @@
 pub mod Fields
 pub mod Formulas
+pub mod Spans
 pub mod Arranged

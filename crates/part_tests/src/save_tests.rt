@@ -1,7 +1,8 @@
 // A save over a folder in memory, of which each call fails in turn.
 ghost use Rattle.std.specs.Prelude.{◌<◌, ◌^◌};
 
-use safe_save::{FakeFolder, Save, SaveError, Step, save_all};
+use device_io::Sink;
+use safe_save::{FakeFolder, Save, SaveError, Step, end_save, give_up};
 use std::alloc::Global;
 use std::io::BufWriter;
 use std::process::Abort;
@@ -17,8 +18,16 @@ fn expect_failure(rt: &impl Abort, alloc: Global, nth: u32, last: bool) -> Resul
 {
     let to = if last { u32::MAX } else { nth + 1 };
     let folder = FakeFolder::new(alloc, nth, to, 2);
-    let writer = BufWriter::with_capacity(alloc, 4, Save::new(folder))?;
-    let (folder, saved) = save_all(writer, b"nine byte", Some(0o640));
+    let mut sink = Sink::new(BufWriter::with_capacity(alloc, 4, Save::new(folder))?);
+    let written = sink.write_all(b"nine byte");
+    let writer = sink.into_inner();
+    let (folder, saved) = match written {
+        Ok(()) => end_save(writer, Some(0o640)),
+        Err(_) => {
+            let (save, _waiting) = writer.into_parts();
+            give_up(save)
+        }
+    };
     check(rt, nth, last, &folder, saved);
     Ok(())
 }

@@ -38,7 +38,7 @@ pub all_lines : (h : HeadFacts) (fs : List Facts) (delays : List ℤ) (floats : 
     → b ≡ a ++ no_survey_lines (no_survey_of (inlines fs) (crosslines fs))
     → c ≡ b ++ value_problems fs delays (is_some (no_survey_of (inlines fs) (crosslines fs)))
     → d ≡ c ++ (if is_some (no_survey_of (inlines fs) (crosslines fs)) then [] else survey_problems fs)
-    → e ≡ d ++ (if floats then [] else sample_problems fs)
+    → e ≡ d ++ sample_problems floats fs
     → e ≡ problems_with h fs delays floats
 all_lines h fs delays floats n a b c d e none one two three four five =
     let lone : Option NoSurvey = no_survey_of (inlines fs) (crosslines fs) in
@@ -46,4 +46,4 @@ all_lines h fs delays floats n a b c d e none one two three four five =
     let second : b ≡ fault_problems (faults_of h fs) (is_some lone) ++ no_survey_lines lone = two ∙ ap (λ (l : List ProblemLine). l ++ no_survey_lines lone) first in
     let third : c ≡ fault_problems (faults_of h fs) (is_some lone) ++ no_survey_lines lone ++ value_problems fs delays (is_some lone) = three ∙ ap (λ (l : List ProblemLine). l ++ value_problems fs delays (is_some lone)) second in
     let fourth : d ≡ header_problems h fs delays lone = four ∙ ap (λ (l : List ProblemLine). l ++ (if is_some lone then [] else survey_problems fs)) third in
-    five ∙ ap (λ (l : List ProblemLine). l ++ (if floats then [] else sample_problems fs)) fourth
+    five ∙ ap (λ (l : List ProblemLine). l ++ sample_problems floats fs) fourth

@@ -211,7 +211,7 @@ fn push_of_survey(
     Ok(())
 }
 
-// S12 and S13, where samples are whole numbers.
+// S12 and S13. Of floats each value and amount is a rank.
 fn push_of_samples(
     alloc: Global,
     lines: &mut Vec<ProblemLine>,
@@ -220,13 +220,10 @@ fn push_of_samples(
 ) -> Result<(), AskFault>
     requires few { length records.now < 2 ^ 32 }
     ensures ok { OnOk result (lines.new.items ≡ lines.old.items
-        ++ (if floats then [] else sample_problems (map facts_of records.now))) }
+        ++ sample_problems floats (map facts_of records.now)) }
     ensures err { IfErr result (λ fault. fault ≡ no_memory) }
 {
-    if floats {
-        return Ok(());
-    }
-    push_group(lines, dead_group(alloc, records, false)?)?;
-    push_group(lines, loud_group(alloc, records, false)?)?;
+    push_group(lines, dead_group(alloc, records, floats)?)?;
+    push_group(lines, loud_group(alloc, records, floats)?)?;
     Ok(())
 }

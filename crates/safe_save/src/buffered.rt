@@ -1,12 +1,11 @@
 // A save through a buffer.
-ghost use Rattle.std.specs.Prelude.{◌≡◌, [], OnOk, IfErr, IfSome, IsErr, option_map};
+ghost use Rattle.std.specs.Prelude.{OnOk, IfErr, IsErr, option_map};
 ghost use Rattle.std.specs.Io.Buffered.{writer_contents};
 ghost use Rattle.safe_save.specs.Saving.{Over, Stored, beside_bytes, IsStored, IsNotStored, IsNeverElse, NeverTouched, IsGone};
 
 use crate::folder::Folder;
 use crate::save::Save;
 use crate::save_error::{Fault, SaveError, Step};
-use device_io::Sink;
 use std::io::{BufWriter, Error, ErrorKind, Write};
 
 /// Ends a save: writes what waits in the buffer, and lets OUT be the new file. The folder comes
@@ -53,33 +52,4 @@ pub fn give_up<F: Folder>(save: Save<F>) -> (F, Result<(), SaveError>)
         left: removed.is_err(),
     };
     (folder, Err(SaveError::NotSaved(fault)))
-}
-
-/// Saves these bytes, through a writer that took none yet.
-pub fn save_all<F: Folder + Drop>(
-    writer: BufWriter<Save<F>>,
-    bytes: &[u8],
-    mode: Option<u32>,
-) -> (F, Result<(), SaveError>)
-    requires { IfSome (writer_contents (option_map beside_bytes) writer) (λ held. held ≡ []) }
-    ensures saved { OnOk result.1 (Stored
-        (option_map (λ _. bytes.now) (writer_contents (option_map beside_bytes) writer))
-        (F.disk result.0) (IsStored mode)) }
-    ensures refused { IfErr result.1 (λ e. Stored
-        (option_map (λ _. bytes.now) (writer_contents (option_map beside_bytes) writer))
-        (F.disk result.0) (IsNotStored e mode)) }
-    ensures any_moment { Stored
-        (option_map (λ _. bytes.now) (writer_contents (option_map beside_bytes) writer))
-        (F.disk result.0) (IsNeverElse mode) }
-{
-    let mut sink = Sink::new(writer);
-    let written = sink.write_all(bytes);
-    let writer = sink.into_inner();
-    match written {
-        Ok(()) => end_save(writer, mode),
-        Err(_) => {
-            let (save, _waiting) = writer.into_parts();
-            give_up(save)
-        }
-    }
 }

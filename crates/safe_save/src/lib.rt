@@ -31,7 +31,7 @@ mod times;
 
 pub use crate::beside::keep_from_clearing;
 pub use crate::bounded_file::BoundedFile;
-pub use crate::buffered::{end_save, give_up, save_all};
+pub use crate::buffered::{end_save, give_up};
 pub use crate::fake_folder::{FakeFile, FakeFolder};
 pub use crate::file_folder::FileFolder;
 pub use crate::folder::Folder;

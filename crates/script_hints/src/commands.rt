@@ -1,7 +1,7 @@
 // The commands and their forms.
 
 /// The first words of the commands.
-pub static COMMANDS: [&str; 42] = [
+pub static COMMANDS: [&str; 44] = [
     "set",
     "get",
     "bin",
@@ -31,9 +31,11 @@ pub static COMMANDS: [&str; 42] = [
     "resize",
     "renumber",
     "compute",
+    "swap",
     "sort",
     "geometry",
     "stat",
+    "stats",
     "fold",
     "grid",
     "inlines",
@@ -48,7 +50,7 @@ pub static COMMANDS: [&str; 42] = [
 
 // Their forms, in the same order: `all` stands for P and Q. They are searched: a `match` of so many
 // texts takes minutes to prove.
-static FORMS: [&str; 42] = [
+static FORMS: [&str; 44] = [
     "set P [Q] FIELD NUMBER [where A OP B ..]",
     "get P FIELD",
     "bin FIELD NUMBER",
@@ -78,9 +80,11 @@ static FORMS: [&str; 42] = [
     "resize P NUMBER",
     "renumber P Q FIELD FIRST STEP [where A OP B ..]",
     "compute P Q FIELD SOURCE [OP OPERAND] .. [where A OP B ..]",
+    "swap P Q FIELD FIELD [where A OP B ..]",
     "sort P Q FIELD ..",
     "geometry P",
     "stat P",
+    "stats P Q [where A OP B ..]",
     "fold NUMBER NUMBER",
     "grid",
     "inlines",

@@ -18,7 +18,16 @@ pub(crate) fn place_of_where(words: &Words) -> Option<usize> {
 fn may_have_conditions(command: &[u8]) -> bool {
     matches!(
         command,
-        b"table" | b"find" | b"extremes" | b"set" | b"renumber" | b"compute" | b"delete" | b"count"
+        b"table"
+            | b"find"
+            | b"extremes"
+            | b"set"
+            | b"renumber"
+            | b"compute"
+            | b"delete"
+            | b"count"
+            | b"stats"
+            | b"swap"
     )
 }
 
@@ -80,6 +89,13 @@ fn word_hint(word: &[u8]) -> Option<&'static str> {
         b"=>" => Some("at least is >="),
         b"&&" => Some("between two conditions stands and"),
         b"or" | b"||" => Some("all conditions are to be met: and stands between two"),
+        _ if is_joined(word) => Some("blanks stand round a sign, as in where cdp = 100"),
         _ => None,
     }
+}
+
+// Whether a sign is joined to what it compares, as in `cdp=100`: each sign alone has at most two
+// bytes.
+fn is_joined(word: &[u8]) -> bool {
+    word.len() > 2 && word.iter().any(|byte| matches!(*byte, b'=' | b'<' | b'>'))
 }

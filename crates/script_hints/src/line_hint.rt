@@ -210,12 +210,14 @@ fn is_of_range(command: &[u8]) -> bool {
         b"set"
             | b"renumber"
             | b"compute"
+            | b"swap"
             | b"sort"
             | b"table"
             | b"find"
             | b"extremes"
             | b"delete"
             | b"count"
+            | b"stats"
             | b"move"
     )
 }
@@ -248,7 +250,7 @@ fn no_field_of_command(words: &Words) -> Hint {
             field_hint(words.at(1), &BINARY_NAMES, &TRACE_NAMES, other)
         }
         b"renumber" | b"find" => trace_field(words.at(3)),
-        b"table" | b"sort" => first_unknown(words, 3),
+        b"table" | b"sort" | b"swap" => first_unknown(words, 3),
         b"compute" => match joined_hint(words) {
             Some(text) => Hint::Text(text),
             None => first_unknown(words, 3),

@@ -7,11 +7,13 @@ use Rattle.bench_rules.specs.Answer.{Reply, IsReply}
 use Rattle.bench_rules.specs.FloatStatistics.{float_format}
 use Rattle.bench_rules.specs.declared.query.Query.{Query}
 use Rattle.bench_rules.specs.declared.query.Query.TheVariants as queries
+use Rattle.bench_rules.specs.declared.chosen_query.ChosenQuery.{ChosenQuery}
+use Rattle.bench_rules.specs.declared.chosen_query.ChosenQuery.TheVariants.{Stats}
 use Rattle.bench_rules.specs.declared.ask_fault.AskFault.TheVariants.{OutOfMemory}
 use Rattle.float_codes.specs.declared.float_format.FloatFormat.{FloatFormat}
 use Rattle.frame_cut.specs.Traces.{count_of}
 use Rattle.shown_floats.specs.declared.float_answer.FloatAnswer.{FloatAnswer}
-use Rattle.shown_floats.specs.Shows.{Shows, IsSlice, IsOther}
+use Rattle.shown_floats.specs.Shows.{Shows, IsList, IsOther}
 use Rattle.script_words.specs.declared.command.Command.{Command}
 use Rattle.script_words.specs.declared.command.Command.TheVariants.{Apply, Ask}
 use Rattle.script_words.specs.declared.line_fault.LineFault.{LineFault}
@@ -19,26 +21,33 @@ use Rattle.script_words.specs.Words.{script_lines}
 use Rattle.script_words.specs.Commands.{IsParsed}
 use Rattle.script_text.specs.Replies.{Printed, nothing, fault_reply, edit_reply, query_reply, float_reply}
 
--- whether a query asks for samples
-abbrev pub asks_for_samples : Query → Bool
-asks_for_samples (queries.Sample p k) = true
-asks_for_samples (queries.Stat p) = true
-asks_for_samples queries.Totals = true
-asks_for_samples (queries.Slice k) = true
-asks_for_samples query = false
+-- whether the samples of chosen traces are asked for
+abbrev pub asks_for_stats : ChosenQuery → Bool
+asks_for_stats Stats = true
+asks_for_stats query = false
 
--- the format of the samples that a query asks for, where they are floats
+-- whether the answer to a query tells of samples
+abbrev pub tells_samples : Query → Bool
+tells_samples (queries.Sample p k) = true
+tells_samples (queries.Stat p) = true
+tells_samples queries.Totals = true
+tells_samples (queries.Slice k) = true
+tells_samples queries.Problems = true
+tells_samples (queries.OfChosen c query) = asks_for_stats query
+tells_samples query = false
+
+-- the format of the samples that the answer tells of, where they are floats
 abbrev pub floats_asked : State → Query → Option FloatFormat
-floats_asked s query = if asks_for_samples query then float_format s.volume.head.format else None
+floats_asked s query = if tells_samples query then float_format s.volume.head.format else None
 
--- What a reply prints. Floats are printed as words that show them; a slice of floats may be told to want memory for its words; an answer
+-- What a reply prints. Floats are printed as words that show them; a list of floats may be told to want memory for its words; an answer
 -- about anything else is printed as ever.
 abbrev pub IsPrintedOf : Option FloatFormat → Reply → Printed → Type 0
 IsPrintedOf None reply printed = printed ≡ query_reply reply
 IsPrintedOf (Some f) (Err fault) printed = printed ≡ query_reply (Err fault)
 IsPrintedOf (Some f) (Ok answer) printed =
     ((shown : FloatAnswer) × Shows f answer shown × (printed ≡ float_reply shown))
-    ⊎ (IsSlice answer × (printed ≡ query_reply (Err OutOfMemory)))
+    ⊎ (IsList answer × (printed ≡ query_reply (Err OutOfMemory)))
     ⊎ (IsOther answer × (printed ≡ query_reply (Ok answer)))
 
 -- a command with what it prints: an edit is one step, and tells of how many traces it was where it is one of chosen traces under

@@ -6,13 +6,13 @@ ghost use Rattle.script_run.specs.Telling.{IsWritten};
 ghost use Rattle.script_text.specs.Held.{printed_of};
 ghost use Rattle.script_run.specs.LineRuns.{RunsLines};
 ghost use Rattle.script_text.specs.Replies.{Printed};
-ghost use Rattle.script_run.specs.Runs.{LineStep, CommandStep, IsPrintedOf, floats_asked};
+ghost use Rattle.script_run.specs.Runs.{LineStep, CommandStep, IsPrintedOf, asks_for_stats as asks_for_stats_of, floats_asked, tells_samples as tells_samples_of};
 ghost use Rattle.script_words.specs.declared.command.Command.TheVariants.{Ask};
 
 use crate::lines_end::LinesEnd;
 use crate::told::{Told, write_reply};
 use bench_core::Bench;
-use bench_rules::{Answer, AskFault, Query};
+use bench_rules::{Answer, AskFault, ChosenQuery, Query};
 use device_io::{Sink, WriteFault};
 use float_codes::FloatFormat;
 use script_hints::{Notes, fault_of};
@@ -123,7 +123,7 @@ fn run_command(alloc: Global, bench: &mut Bench, command: &Command) -> Reply
     }
 }
 
-// The reply to a query. Where it asks for samples that are floats, it has their words.
+// The reply to a query. Where it tells of samples that are floats, it has their words.
 fn answered(alloc: Global, bench: &mut Bench, query: &Query) -> Reply
     ensures step { IsTrue bench.new.agreed →
         CommandStep bench.old.state (Ask query.now) (printed_of result) bench.new.state }
@@ -135,16 +135,34 @@ fn answered(alloc: Global, bench: &mut Bench, query: &Query) -> Reply
     shown_reply(alloc, floats, bench.ask(alloc, query))
 }
 
-// The format of the samples that the query asks for, where they are floats.
+// The format of the samples that the answer tells of, where they are floats.
 fn floats_of(bench: &Bench, query: &Query) -> Option<FloatFormat>
     ensures { result ≡ floats_asked bench.now.state query.now }
 {
-    match query {
-        Query::Sample(..) | Query::Stat(_) | Query::Totals | Query::Slice(_) => {
-            bench.float_format()
-        }
-        _ => None,
+    if tells_samples(query) {
+        bench.float_format()
+    } else {
+        None
     }
+}
+
+// Whether the answer to the query tells of samples.
+fn tells_samples(query: &Query) -> bool
+    ensures { result ≡ tells_samples_of query.now }
+{
+    match query {
+        Query::Sample(..) | Query::Stat(_) | Query::Totals | Query::Slice(_) | Query::Problems =>
+            true,
+        Query::OfChosen(_chosen, asked) => asks_for_stats(asked),
+        _ => false,
+    }
+}
+
+// Whether the samples of chosen traces are asked for.
+fn asks_for_stats(query: &ChosenQuery) -> bool
+    ensures { result ≡ asks_for_stats_of query.now }
+{
+    matches!(query, ChosenQuery::Stats)
 }
 
 // What is printed for the reply to a query.

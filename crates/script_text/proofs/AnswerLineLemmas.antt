@@ -22,12 +22,14 @@ use Rattle.fault_live.specs.declared.fault.Fault.TheVariants as faults
 use Rattle.bench_rules.specs.declared.row.Row.{Row}
 use Rattle.bench_rules.specs.declared.extremes.Extremes.{Extremes}
 use Rattle.bench_rules.specs.declared.info.Info.{Info}
+use Rattle.bench_rules.specs.declared.trace_statistics.FloatTraceStatistics.{FloatTraceStatistics}
+use Rattle.bench_rules.specs.declared.trace_statistics.TraceStatistics.{TraceStatistics}
 use Rattle.bench_rules.specs.declared.location.Location.{Location}
 use Rattle.bench_rules.specs.declared.answer.Answer.TheVariants as answers
 use Rattle.script_text.specs.Texts.{with_blanks, list_lines, place_text, extension_text, sign_letter, is_plain, is_full_line, IsFullLines}
-use Rattle.script_text.specs.ReportTexts.{fraction_text, location_text, statistics_text, range_text, cell_text, numbered_text, fold_count_text, row_text, of_trace_text, fault_text}
+use Rattle.script_text.specs.ReportTexts.{fraction_text, location_text, statistics_text, range_text, cell_text, numbered_text, fold_count_text, row_text, of_trace_text, fault_text, counted_statistics_text, trace_statistics_text}
 use Rattle.script_text.specs.HeaderTexts.{table_row_text, found_text, number_text, four_numbers, extremes_text}
-use Rattle.script_text.specs.AnswerTexts.{order_text, yes_or_no, info_text, code_text, stanza_text, field_text, shown_text, ranks_text, tail_text}
+use Rattle.script_text.specs.AnswerTexts.{order_text, yes_or_no, info_text, code_text, stanza_text, field_text, shown_text, ranks_text, tail_text, trace_ranks_text}
 use Rattle.script_text.specs.FullLines.{AnswersAreFullLines}
 use Rattle.script_text.proofs.ProblemLineLemmas.{full_problems}
 use Rattle.script_text.proofs.FullLineLemmas.{plain_both, plain_decimal, full_decimal, plain_signed, plain_numbers, plain_first, plain_joined, Plain, no_word, word, plain_words, full_joined, words_line, one_line, lines_behind, each_full, some_full}
@@ -109,6 +111,22 @@ full_ranks : (s : Option FloatStatistics) → is_full_line (ranks_text s) ≡ tr
 full_ranks None = refl
 full_ranks (Some s) = words_line (codes "stat ranks") refl
     (word (signed_decimal s.least) (plain_signed s.least) (word (signed_decimal s.greatest) (plain_signed s.greatest) (word (signed_decimal s.sum) (plain_signed s.sum) no_word)))
+
+full_trace_statistics : (t : TraceStatistics) → is_full_line (trace_statistics_text t) ≡ true
+full_trace_statistics t = by t.statistics
+  where
+    by : (s : Option Statistics) → is_full_line (counted_statistics_text t.position t.zeros s) ≡ true
+    by None = words_line (decimal t.position) (full_decimal t.position) (word (codes "none") refl no_word)
+    by (Some s) = words_line (decimal t.position) (full_decimal t.position)
+        (word (codes "least") refl (word (signed_decimal s.least) (plain_signed s.least)
+        (word (codes "greatest") refl (word (signed_decimal s.greatest) (plain_signed s.greatest)
+        (word (codes "sum") refl (word (signed_decimal s.sum) (plain_signed s.sum)
+        (word (codes "zeros") refl (word (decimal t.zeros) (plain_decimal t.zeros)
+        (word (codes "samples") refl (word (decimal s.number) (plain_decimal s.number) no_word))))))))))
+
+full_trace_ranks : (t : FloatTraceStatistics) → is_full_line (trace_ranks_text t) ≡ true
+full_trace_ranks t = words_line (ranks_text t.statistics) (full_ranks t.statistics)
+    (word (codes "trace") refl (word (decimal t.position) (plain_decimal t.position) (word (codes "zeros") refl (word (decimal t.zeros) (plain_decimal t.zeros) no_word))))
 
 full_range : (range : Option (Ratio × Ratio)) → is_full_line (range_text range) ≡ true
 full_range None = refl
@@ -204,3 +222,5 @@ answers_are_full_lines (answers.Found found) h = a_list (codes "found") (map (fo
 answers_are_full_lines (answers.Header fields) h = a_list (codes "header") (map number_text fields) refl (some_full number_text (λ f. is_plain f.0) full_number fields h)
 answers_are_full_lines (answers.Extremes fields) h = a_list (codes "extremes") (map extremes_text fields) refl (some_full extremes_text (λ f. is_plain f.0) full_extremes fields h)
 answers_are_full_lines (answers.Chosen n) h = one_line (with_blanks (codes "chosen" ∷ decimal n ∷ [])) (words_line (codes "chosen") refl (word (decimal n) (plain_decimal n) no_word))
+answers_are_full_lines (answers.Stats traces) h = a_list (codes "stats") (map trace_statistics_text traces) refl (each_full trace_statistics_text full_trace_statistics traces)
+answers_are_full_lines (answers.FloatStats traces) h = a_list (codes "stats") (map trace_ranks_text traces) refl (each_full trace_ranks_text full_trace_ranks traces)

@@ -48,6 +48,7 @@ use Rattle.bench_rules.specs.ManyTraces.{each_of}
 use Rattle.bench_rules.specs.Places.{place_in_trace, place_in_binary, is_in_binary}
 use Rattle.bench_rules.specs.Refused.{is_line}
 use Rattle.bench_rules.specs.Reports.{geometry_in, totals_in, slice_in}
+use Rattle.bench_rules.specs.SampleStatistics.{statistics_of_each}
 use Rattle.bench_rules.specs.State.{State}
 use Rattle.bench_rules.specs.Headers.{with_name, header_of, extremes_in, header_places, named_places, numbers_at, extremes_unless_zero}
 use Rattle.bench_rules.specs.Tables.{table_of, found_of}
@@ -269,11 +270,17 @@ plain_found_of_each : (v : Volume) (ps : List ℕ) (low high : ℤ) (place : Opt
 plain_found_of_each v ps low high None = tt
 plain_found_of_each v ps low high (Some place) = plain_or_fault (found_of_each v place low high ps) NoPlace answers.Found (λ x. tt)
 
+-- statistics have no text
+plain_stats : (floats : Bool) (v : Volume) (ps : List ℕ) → HasPlainTexts (statistics_of_each floats v ps)
+plain_stats true v ps = tt
+plain_stats false v ps = tt
+
 plain_of_each : (v : Volume) (fields : Pairs) → HasPlainNames fields → (query : ChosenQuery) (ps : List ℕ) → PlainReply (answer_of_each v fields query ps)
 plain_of_each v fields h chosen_queries.Count ps = tt
 plain_of_each v fields h (chosen_queries.Table names) ps = plain_table_of_each v ps (each_of (place_in_trace fields) names)
 plain_of_each v fields h (chosen_queries.Find field low high) ps = plain_found_of_each v ps low high (place_in_trace fields field)
 plain_of_each v fields h chosen_queries.Extremes ps = plain_names (λ e. extremes_unless_zero (numbers_of_each v e.1 ps)) (named_places fields) (plain_places fields h)
+plain_of_each v fields h chosen_queries.Stats ps = plain_of_values v.head (Ok (statistics_of_each (has_floats v.head) v ps)) (plain_stats (has_floats v.head) v ps)
 
 plain_of_chosen : (v : Volume) (fields : Pairs) → HasPlainNames fields → (query : ChosenQuery) (ps : Option (List ℕ)) → PlainReply (answer_of_chosen v fields query ps)
 plain_of_chosen v fields h query None = tt

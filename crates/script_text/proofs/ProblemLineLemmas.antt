@@ -68,7 +68,7 @@ full_fold f = words_line (codes "problem S9 cells") refl
     (word (codes "less") refl (word (decimal f.less) (plain_decimal f.less) (word (codes "more") refl (word (decimal f.more) (plain_decimal f.more)
     (word (codes "least") refl (word (decimal f.least) (plain_decimal f.least) (word (codes "greatest") refl (word (decimal f.greatest) (plain_decimal f.greatest) no_word)))))))))))
 
-full_problem : (l : ProblemLine) → is_full_line (problem_text l) ≡ true
+pub full_problem : (l : ProblemLine) → is_full_line (problem_text l) ≡ true
 full_problem (lines.Traces p n r) = words_line (codes "problem") refl
     (word (code_of_problem p) (plain_code p) (word (codes "traces") refl (word (decimal n) (plain_decimal n) (word (codes "runs") refl (word (decimal r) (plain_decimal r) no_word)))))
 full_problem (lines.Run p r) = words_line (codes "run") refl
@@ -83,7 +83,7 @@ full_problem (lines.Missing r) = words_line (codes "run") refl
     (word (signed_decimal r.first) (plain_signed r.first) (word (signed_decimal r.last) (plain_signed r.last) (word (codes "step") refl (word (decimal r.step) (plain_decimal r.step) no_word))))
 full_problem (lines.Fold f) = full_fold f
 
-counted : (n : ℕ) → is_full_line (codes "problems" ++ codes " " ++ decimal n) ≡ true
+pub counted : (n : ℕ) → is_full_line (codes "problems" ++ codes " " ++ decimal n) ≡ true
 counted n = full_joined (codes "problems") refl (word (codes " ") refl (word (decimal n) (plain_decimal n) no_word))
 
 pub full_problems : (ls : List ProblemLine) → IsFullLines (problems_text ls)

@@ -22,3 +22,11 @@ five_behind a b c d e f g h i j k = simp append_assoc
 -- four texts, each behind a blank
 pub four_behind : (a b c d e : List ℕ) → 32 ∷ (a ++ 32 ∷ (b ++ 32 ∷ (c ++ 32 ∷ (d ++ e)))) ≡ 32 ∷ ((a ++ 32 ∷ (b ++ 32 ∷ (c ++ 32 ∷ d))) ++ e)
 four_behind a b c d e = simp append_assoc
+
+-- five numbers, each behind its word
+pub five_numbered : (w a b c d e f g h i j : List ℕ) → ((((w ++ (a ++ b)) ++ (c ++ d)) ++ (e ++ f)) ++ (g ++ h)) ++ (i ++ j) ≡ w ++ (a ++ (b ++ (c ++ (d ++ (e ++ (f ++ (g ++ (h ++ (i ++ j)))))))))
+five_numbered w a b c d e f g h i j = simp append_assoc
+
+-- three texts and three numbers, each behind its word
+pub six_behind : (w a b c d e f g h i j k l : List ℕ) → (((w ++ (a ++ (b ++ (c ++ (d ++ (e ++ f)))))) ++ (g ++ h)) ++ (i ++ j)) ++ (k ++ l) ≡ w ++ (a ++ (b ++ (c ++ (d ++ (e ++ (f ++ (g ++ (h ++ (i ++ (j ++ (k ++ l)))))))))))
+six_behind w a b c d e f g h i j k l = simp append_assoc

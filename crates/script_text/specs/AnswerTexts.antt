@@ -11,10 +11,11 @@ use Rattle.bench_rules.specs.declared.float_statistics.FloatStatistics.{FloatSta
 use Rattle.bench_rules.specs.declared.info.Info.{Info}
 use Rattle.bench_rules.specs.declared.answer.Answer.{Answer}
 use Rattle.bench_rules.specs.declared.answer.Answer.TheVariants as answers
+use Rattle.bench_rules.specs.declared.trace_statistics.FloatTraceStatistics.{FloatTraceStatistics}
 use Rattle.text_block.specs.Lines.{without_blanks}
 use Rattle.script_text.specs.HeaderTexts.{table_row_text, found_text, number_text, extremes_text}
 use Rattle.script_text.specs.ProblemTexts.{problems_text}
-use Rattle.script_text.specs.ReportTexts.{location_text, statistics_text, range_text, cell_text, numbered_text, fold_count_text, row_text, fault_text}
+use Rattle.script_text.specs.ReportTexts.{location_text, statistics_text, range_text, cell_text, numbered_text, fold_count_text, row_text, fault_text, trace_statistics_text}
 use Rattle.script_text.specs.Texts.{with_blanks, with_line_end, list_lines, place_text}
 
 -- the order of bytes
@@ -68,6 +69,10 @@ abbrev pub ranks_text : Option FloatStatistics → List ℕ
 ranks_text None = codes "stat none"
 ranks_text (Some s) = with_blanks (codes "stat ranks" ∷ signed_decimal s.least ∷ signed_decimal s.greatest ∷ signed_decimal s.sum ∷ [])
 
+-- the same of a trace among others
+abbrev pub trace_ranks_text : FloatTraceStatistics → List ℕ
+trace_ranks_text t = with_blanks (ranks_text t.statistics ∷ codes "trace" ∷ decimal t.position ∷ codes "zeros" ∷ decimal t.zeros ∷ [])
+
 -- an answer, each line with its end
 abbrev pub answer_text : Answer → List ℕ
 answer_text (answers.Count n) = with_line_end (with_blanks (codes "traces" ∷ decimal n ∷ []))
@@ -96,3 +101,5 @@ answer_text (answers.Found found) = list_lines (codes "found") (map (found_text 
 answer_text (answers.Header fields) = list_lines (codes "header") (map number_text fields)
 answer_text (answers.Extremes fields) = list_lines (codes "extremes") (map extremes_text fields)
 answer_text (answers.Chosen n) = with_line_end (with_blanks (codes "chosen" ∷ decimal n ∷ []))
+answer_text (answers.Stats traces) = list_lines (codes "stats") (map trace_statistics_text traces)
+answer_text (answers.FloatStats traces) = list_lines (codes "stats") (map trace_ranks_text traces)

@@ -52,6 +52,6 @@ abbrev pub query_reply : Result Answer AskFault → Printed
 query_reply (Ok answer) = record { text = answer_text answer; is_refusal = false }
 query_reply (Err fault) = refusal (ask_fault_text fault)
 
--- the reply to a query for samples that are floats, where it is answered
+-- the reply to a query that tells of samples that are floats, where it is answered
 abbrev pub float_reply : FloatAnswer → Printed
 float_reply answer = record { text = float_answer_text answer; is_refusal = false }

@@ -10,6 +10,7 @@ use Rattle.fault_live.specs.declared.fault.Fault.{Fault}
 use Rattle.fault_live.specs.declared.fault.Fault.TheVariants.{Sequence, Samples, Interval, Scalar, Units, Repeated, TraceCount, TextLines, Name}
 use Rattle.bench_rules.specs.declared.row.Row.{Row}
 use Rattle.bench_rules.specs.declared.location.Location.{Location}
+use Rattle.bench_rules.specs.declared.trace_statistics.TraceStatistics.{TraceStatistics}
 use Rattle.script_text.specs.Texts.{with_blanks}
 
 -- a fraction in lowest terms: a whole number stands alone
@@ -34,6 +35,21 @@ statistics_text word (Some s) = with_blanks
     ∷ codes "greatest" ∷ signed_decimal s.greatest
     ∷ codes "sum" ∷ signed_decimal s.sum
     ∷ codes "samples" ∷ decimal s.number ∷ [])
+
+-- statistics of the trace at p, with how many of its samples are 0
+abbrev pub counted_statistics_text : (p : ℕ) → (zeros : ℕ) → Option Statistics → List ℕ
+counted_statistics_text p z None = with_blanks (decimal p ∷ codes "none" ∷ [])
+counted_statistics_text p z (Some s) = with_blanks
+    (decimal p
+    ∷ codes "least" ∷ signed_decimal s.least
+    ∷ codes "greatest" ∷ signed_decimal s.greatest
+    ∷ codes "sum" ∷ signed_decimal s.sum
+    ∷ codes "zeros" ∷ decimal z
+    ∷ codes "samples" ∷ decimal s.number ∷ [])
+
+-- what the samples of a trace say
+abbrev pub trace_statistics_text : TraceStatistics → List ℕ
+trace_statistics_text t = counted_statistics_text t.position t.zeros t.statistics
 
 -- the least and the greatest value
 abbrev pub range_text : Option (Ratio × Ratio) → List ℕ

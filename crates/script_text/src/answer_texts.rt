@@ -53,6 +53,8 @@ pub(crate) fn push_answer<W: Write>(
         Answer::Faults(faults) => push_list(out, writer, b"faults", b"", faults.as_slice()),
         Answer::Problems(lines) => push_problems(out, writer, lines.as_slice()),
         Answer::Count(count) => out.push(writer, numbered_line(b"traces ", *count).as_slice()),
+        Answer::Stats(traces) => push_list(out, writer, b"stats", b"", traces.as_slice()),
+        Answer::FloatStats(traces) => push_list(out, writer, b"stats", b"", traces.as_slice()),
         Answer::Chosen(count) => out.push(writer, numbered_line(b"chosen ", *count).as_slice()),
         Answer::Info(info) => out.push(writer, info_line(*info).as_slice()),
         Answer::Value(value) => out.push(writer, numbered_line(b"value ", *value).as_slice()),
@@ -79,10 +81,11 @@ fn ranks_line(found: Option<FloatStatistics>) -> TextBuffer
     line
 }
 
-fn push_ranks(line: &mut TextBuffer, found: FloatStatistics)
+/// Statistics as ranks.
+pub(crate) fn push_ranks(line: &mut TextBuffer, found: FloatStatistics)
     requires { line.old ≡ [] }
     ensures text { line.new ≡ ranks_text (Some found) }
-    ensures short { length line.new ≤ 639 }
+    ensures short { length line.new ≤ 200 }
 {
     line.push_numbered(b"stat ranks ", found.least);
     line.push_numbered(b" ", found.greatest);

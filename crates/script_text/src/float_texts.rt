@@ -6,6 +6,7 @@ ghost use Rattle.script_text.specs.FloatTexts.{float_answer_text, float_row_text
 ghost use Rattle.script_text.specs.Printing.{Pushes};
 ghost use Rattle.script_text.specs.Texts.{with_line_end};
 
+use crate::float_problem_texts::push_float_problems;
 use crate::list_texts::{Listed, push_list};
 use crate::out_buffer::OutBuffer;
 use crate::text_buffer::TextBuffer;
@@ -27,6 +28,8 @@ pub(crate) fn push_floats<W: Write>(
         FloatAnswer::Stat(found) => out.push(writer, stat_line(*found).as_slice()),
         FloatAnswer::Totals(found) => out.push(writer, totals_line(*found).as_slice()),
         FloatAnswer::Slice(rows) => push_list(out, writer, b"slice", b"row", rows.as_slice()),
+        FloatAnswer::Problems(lines) => push_float_problems(out, writer, lines.as_slice()),
+        FloatAnswer::Stats(traces) => push_list(out, writer, b"stats", b"", traces.as_slice()),
     }
 }
 
@@ -39,8 +42,8 @@ fn value_line(word: FloatWord) -> TextBuffer
     line
 }
 
-// A word behind its name, or `none`.
-fn push_named(line: &mut TextBuffer, name: &[u8], word: Option<FloatWord>)
+/// A word behind its name, or `none`.
+pub(crate) fn push_named(line: &mut TextBuffer, name: &[u8], word: Option<FloatWord>)
     requires room { length line.old ≤ 400 }
     requires name { length name.now ≤ 20 }
     ensures text { line.new ≡ line.old ++ (name.now ++ word_or_none word) }
@@ -53,13 +56,13 @@ fn push_named(line: &mut TextBuffer, name: &[u8], word: Option<FloatWord>)
     }
 }
 
-fn least(ends: Option<ShownEnds>) -> Option<FloatWord>
+pub(crate) fn least(ends: Option<ShownEnds>) -> Option<FloatWord>
     ensures { result ≡ least_of ends }
 {
     Some(ends?.least)
 }
 
-fn greatest(ends: Option<ShownEnds>) -> Option<FloatWord>
+pub(crate) fn greatest(ends: Option<ShownEnds>) -> Option<FloatWord>
     ensures { result ≡ greatest_of ends }
 {
     Some(ends?.greatest)

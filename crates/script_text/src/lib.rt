@@ -5,6 +5,7 @@
 #![tactic(auto)]
 
 mod answer_texts;
+mod float_problem_texts;
 mod float_texts;
 mod header_texts;
 mod laws;
@@ -18,6 +19,7 @@ mod report_texts;
 mod run_end;
 mod script_fault;
 mod session_fault;
+mod stats_texts;
 mod table_texts;
 mod text_buffer;
 mod text_from_end;

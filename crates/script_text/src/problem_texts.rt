@@ -39,7 +39,8 @@ fn problems_in(lines: &[ProblemLine]) -> u64
     count
 }
 
-fn begins(line: ProblemLine) -> bool
+/// Whether the line begins a problem.
+pub(crate) fn begins(line: ProblemLine) -> bool
     ensures { result ≡ begins_problem line }
 {
     !matches!(line, ProblemLine::Run(..) | ProblemLine::Missing(_))

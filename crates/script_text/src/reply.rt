@@ -31,7 +31,7 @@ pub enum Reply {
     Edited(Result<Option<u32>, Refusal>),
     /// The line is a query.
     Asked(Result<Answer, AskFault>),
-    /// The line is a query for samples that are floats.
+    /// The line is a query that tells of samples that are floats.
     Floats(FloatAnswer),
 }
 

@@ -12,3 +12,4 @@ pub mod SortLemmas
 pub mod CutLemmas
 pub mod ConditionLemmas
 pub mod RangeLemmas
+pub mod SwapLemmas

@@ -14,7 +14,7 @@ use Rattle.script_words.specs.declared.command.Command.TheVariants.{Apply, Ask}
 use Rattle.script_words.specs.declared.line_fault.LineFault.{LineFault}
 use Rattle.script_words.specs.declared.line_fault.LineFault.TheVariants.{Words, Number, OutOfMemory}
 use Rattle.script_words.specs.declared.range_command.RangeCommand.{RangeCommand}
-use Rattle.script_words.specs.declared.range_command.RangeCommand.TheVariants.{Table, Find, Extremes, Set, Renumber, Compute, Delete, Count}
+use Rattle.script_words.specs.declared.range_command.RangeCommand.TheVariants.{Table, Find, Extremes, Set, Renumber, Compute, Delete, Count, Stats, Swap}
 use Rattle.script_words.specs.Conditions.{has_conditions, conditions_of}
 use Rattle.script_words.specs.HeaderCommands.{is_field_count, is_step_count}
 use Rattle.script_words.specs.Numbers.{number_of, trace_of}
@@ -94,6 +94,8 @@ each_of_range traces Renumber ws = five_of_range (trace_of traces) (trace_of tra
 each_of_range traces Compute ws = four_and_list_of_range (trace_of traces) (trace_of traces) field_of operand_of number_of is_step_count steps_of _ (λ a b k l m. refl) ws
 each_of_range traces Delete ws = two_of_range (trace_of traces) (trace_of traces) (trace_of traces) (trace_of traces) (trace_of traces) _ (λ a b. refl) ws
 each_of_range traces Count ws = two_of_range (trace_of traces) (trace_of traces) (trace_of traces) (trace_of traces) (trace_of traces) _ (λ a b. refl) ws
+each_of_range traces Stats ws = two_of_range (trace_of traces) (trace_of traces) (trace_of traces) (trace_of traces) (trace_of traces) _ (λ a b. refl) ws
+each_of_range traces Swap ws = four_of_range (trace_of traces) (trace_of traces) field_of field_of field_of _ (λ a b k l. refl) ws
 
 -- ---- memory of commands on chosen traces
 

@@ -74,6 +74,15 @@ pub each-delete : line_result None 9 (codes "delete 2 last") ≡ Ok (Some (Apply
 unfolding is_utf8 chars encode_utf8
 each-delete = refl
 
+pub each-swap : line_result None 9 (codes "swap 2 last sx @73:4") ≡ Ok (Some (Apply (edits.OfChosen (those (Some (2, 9)) []) (chosen_edits.Swap (named (codes "sx")) (fields.Place (signed_at 73 4))))))
+unfolding is_utf8 chars encode_utf8
+each-swap = refl
+
+-- of two fields one is missing
+pub all-swap_few : line_result None 9 (codes "swap all sx") ≡ Err Words
+unfolding is_utf8 chars encode_utf8
+all-swap_few = refl
+
 pub one-delete : line_result None 9 (codes "delete 2") ≡ Ok (Some (Apply (edits.Delete 2)))
 unfolding is_utf8 chars encode_utf8
 one-delete = refl
@@ -132,9 +141,25 @@ pub where-delete : line_result None 9 (codes "delete all where cdp = 5") ≡ Ok 
 unfolding is_utf8 chars encode_utf8
 where-delete = refl
 
+pub where-swap : line_result None 9 (codes "swap all sx gx where cdp = 5") ≡ Ok (Some (Apply (edits.OfChosen (those (Some (1, 9)) (when (codes "cdp") Equal (pos 5) ∷ [])) (chosen_edits.Swap (named (codes "sx")) (named (codes "gx"))))))
+unfolding is_utf8 chars encode_utf8
+where-swap = refl
+
 pub where-count : line_result None 9 (codes "count 2 5 where cdp = 5") ≡ Ok (Some (Ask (queries.OfChosen (those (Some (2, 5)) (when (codes "cdp") Equal (pos 5) ∷ [])) chosen_queries.Count)))
 unfolding is_utf8 chars encode_utf8
 where-count = refl
+
+pub where-stats : line_result None 9 (codes "stats 2 5 where cdp = 5") ≡ Ok (Some (Ask (queries.OfChosen (those (Some (2, 5)) (when (codes "cdp") Equal (pos 5) ∷ [])) chosen_queries.Stats)))
+unfolding is_utf8 chars encode_utf8
+where-stats = refl
+
+pub all-stats : line_result None 9 (codes "stats all") ≡ Ok (Some (Ask (queries.OfChosen (those (Some (1, 9)) []) chosen_queries.Stats)))
+unfolding is_utf8 chars encode_utf8
+all-stats = refl
+
+pub all-stats_none : line_result None 0 (codes "stats all") ≡ Ok (Some (Ask (queries.OfChosen (those None []) chosen_queries.Stats)))
+unfolding is_utf8 chars encode_utf8
+all-stats_none = refl
 
 pub where-count_all : line_result None 0 (codes "count all where cdp = 5") ≡ Ok (Some (Ask (queries.OfChosen (those None (when (codes "cdp") Equal (pos 5) ∷ [])) chosen_queries.Count)))
 unfolding is_utf8 chars encode_utf8

@@ -7,7 +7,7 @@ use Rattle.bench_rules.specs.declared.query.Query.TheVariants as queries
 use Rattle.script_words.specs.declared.command.Command.{Command}
 use Rattle.script_words.specs.declared.command.Command.TheVariants.{Apply, Ask}
 use Rattle.script_words.specs.declared.range_command.RangeCommand.{RangeCommand}
-use Rattle.script_words.specs.declared.range_command.RangeCommand.TheVariants.{Table, Find, Extremes, Set, Renumber, Compute, Delete, Count}
+use Rattle.script_words.specs.declared.range_command.RangeCommand.TheVariants.{Table, Find, Extremes, Set, Renumber, Compute, Delete, Count, Stats, Swap}
 use Rattle.script_words.specs.HeaderCommands.{read_table, read_find, read_extremes, read_compute, read_header, read_sort}
 use Rattle.script_words.specs.Numbers.{number_of, trace_of}
 use Rattle.script_words.specs.Ranges.{is_all, of_range, ranged}
@@ -34,6 +34,11 @@ read_delete_one traces = one (trace_of traces) (λ p. Apply (edits.Delete p))
 abbrev pub read_delete_each : ℕ → Reader Command
 read_delete_each traces = two (trace_of traces) (trace_of traces) (λ a b. Apply (edits.OfChosen (record { traces = Some (a, b); conditions = [] }) chosen_edits.Delete))
 
+-- `swap P Q FIELD FIELD`
+abbrev pub read_swap : ℕ → Reader Command
+read_swap traces =
+    four (trace_of traces) (trace_of traces) field_of field_of (λ a b first second. Apply (edits.OfChosen (record { traces = Some (a, b); conditions = [] }) (chosen_edits.Swap first second)))
+
 -- `count`
 abbrev pub read_count : Reader Command
 read_count = alone (Ask queries.Count)
@@ -41,6 +46,10 @@ read_count = alone (Ask queries.Count)
 -- `count P Q`, in front of conditions
 abbrev pub read_count_each : ℕ → Reader Command
 read_count_each traces = two (trace_of traces) (trace_of traces) (λ a b. Ask (queries.OfChosen (record { traces = Some (a, b); conditions = [] }) chosen_queries.Count))
+
+-- `stats P Q`
+abbrev pub read_stats_each : ℕ → Reader Command
+read_stats_each traces = two (trace_of traces) (trace_of traces) (λ a b. Ask (queries.OfChosen (record { traces = Some (a, b); conditions = [] }) chosen_queries.Stats))
 
 -- the command, where two words tell its range
 abbrev pub read_each : ℕ → RangeCommand → Reader Command
@@ -52,6 +61,8 @@ read_each traces Renumber = read_renumber traces
 read_each traces Compute = read_compute traces
 read_each traces Delete = read_delete_each traces
 read_each traces Count = read_count_each traces
+read_each traces Stats = read_stats_each traces
+read_each traces Swap = read_swap traces
 
 -- `set` without conditions: of one trace, or of a range where `all` or the number of words tells one
 abbrev pub read_set : ℕ → Reader Command
@@ -83,6 +94,8 @@ header_commands traces =
     ∷ (codes "compute", read_ranged traces Compute)
     ∷ (codes "delete", read_ranged traces Delete)
     ∷ (codes "count", read_ranged traces Count)
+    ∷ (codes "stats", read_ranged traces Stats)
+    ∷ (codes "swap", read_ranged traces Swap)
     ∷ (codes "sort", of_range traces (read_sort traces))
     ∷ (codes "header", read_header traces)
     ∷ report_commands traces

@@ -39,6 +39,8 @@ pub(crate) fn of_headers(
         "compute" => ranged(alloc, traces, RangeCommand::Compute, words),
         "delete" => ranged(alloc, traces, RangeCommand::Delete, words),
         "count" => ranged(alloc, traces, RangeCommand::Count, words),
+        "stats" => ranged(alloc, traces, RangeCommand::Stats, words),
+        "swap" => ranged(alloc, traces, RangeCommand::Swap, words),
         "sort" => sort(alloc, traces, words),
         "header" => header(traces, words),
         _ => report(traces, word, words),

@@ -31,6 +31,7 @@ mod report_commands;
 mod session_words;
 mod sort_command;
 mod split;
+mod swap_command;
 mod trace_commands;
 mod words;
 

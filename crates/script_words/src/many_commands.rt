@@ -1,9 +1,9 @@
-// The commands that set a field of many traces, delete them or count them: `all` stands for the two
-// words of their range.
+// The commands that set a field of many traces, delete them, count them or ask what their samples
+// say: `all` stands for the two words of their range.
 ghost use Rattle.std.specs.Prelude.{◌≡◌};
 ghost use Rattle.script_words.specs.Words.{words_of};
 ghost use Rattle.script_words.specs.Ranges.{spelled};
-ghost use Rattle.script_words.specs.RangeCommands.{read_set_one, read_set_each, read_renumber, read_delete_one, read_delete_each, read_count_each};
+ghost use Rattle.script_words.specs.RangeCommands.{read_set_one, read_set_each, read_renumber, read_delete_one, read_delete_each, read_count_each, read_stats_each};
 ghost use Rattle.script_words.specs.Commands.{IsRead};
 
 use crate::command::Command;
@@ -92,4 +92,17 @@ pub(crate) fn count_each(alloc: Global, traces: u32, words: Words) -> Result<Com
         conditions: Items::new(Vec::new(alloc)),
     };
     Ok(Command::Ask(Query::OfChosen(chosen, ChosenQuery::Count)))
+}
+
+pub(crate) fn stats_each(alloc: Global, traces: u32, words: Words) -> Result<Command, LineFault>
+    ensures { result ≡ read_stats_each traces (spelled (words_of words.entry)) }
+{
+    let (a, b) = range_alone(words).ok_or(LineFault::Words)?;
+    let a = trace(traces, a).ok_or(LineFault::Number)?;
+    let b = trace(traces, b).ok_or(LineFault::Number)?;
+    let chosen = Chosen {
+        traces: Some((a, b)),
+        conditions: Items::new(Vec::new(alloc)),
+    };
+    Ok(Command::Ask(Query::OfChosen(chosen, ChosenQuery::Stats)))
 }

@@ -9,4 +9,6 @@ pub(crate) enum RangeCommand {
     Compute,
     Delete,
     Count,
+    Stats,
+    Swap,
 }

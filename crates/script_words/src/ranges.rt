@@ -12,10 +12,13 @@ use crate::compute_command::compute;
 use crate::conditions::{conditions, fault_without_memory, has_conditions, split_where};
 use crate::header_commands::{extremes, find, table};
 use crate::line_fault::LineFault;
-use crate::many_commands::{count_each, delete_each, delete_one, renumber, set_each, set_one};
+use crate::many_commands::{
+    count_each, delete_each, delete_one, renumber, set_each, set_one, stats_each,
+};
 use crate::parse::query_alone;
 use crate::range_command::RangeCommand;
 use crate::sort_command::sort_each;
+use crate::swap_command::swap_each;
 use crate::words::{Words, is_all, number_of_words};
 use bench_rules::{Items, Query};
 use std::alloc::Global;
@@ -81,6 +84,8 @@ fn each(alloc: Global, traces: u32, which: RangeCommand, words: Words) -> Result
         RangeCommand::Compute => compute(alloc, traces, words),
         RangeCommand::Delete => delete_each(alloc, traces, words),
         RangeCommand::Count => count_each(alloc, traces, words),
+        RangeCommand::Stats => stats_each(alloc, traces, words),
+        RangeCommand::Swap => swap_each(alloc, traces, words),
     }
 }
 

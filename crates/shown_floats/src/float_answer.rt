@@ -1,5 +1,5 @@
 use crate::float_word::FloatWord;
-use bench_rules::{Items, Row};
+use bench_rules::{FloatTraceStatistics, Items, ProblemLine, Row};
 
 /// The least and the greatest float of some that are numbers.
 #[derive(Clone, Copy)]
@@ -37,7 +37,23 @@ pub struct FloatRow {
     pub word: FloatWord,
 }
 
-/// The answer to a query for samples that are floats.
+/// A line of what is wrong or doubtful, with the word of its float where it tells of one: the value
+/// of dead traces, and the amount of loud ones.
+#[derive(Clone, Copy)]
+pub struct ShownProblem {
+    pub line: ProblemLine,
+    pub word: Option<FloatWord>,
+}
+
+/// What the samples of a trace say, with the words of its statistics.
+#[derive(Clone, Copy)]
+pub struct ShownTrace {
+    pub trace: FloatTraceStatistics,
+    /// `None` of a trace without samples.
+    pub statistics: Option<ShownStatistics>,
+}
+
+/// The answer to a query that tells of samples that are floats.
 #[derive(Drop)]
 pub enum FloatAnswer {
     /// Of a sample.
@@ -48,4 +64,8 @@ pub enum FloatAnswer {
     Totals(Option<ShownTotals>),
     /// A row for each trace that has the sample, rising by inline, crossline and position.
     Slice(Items<FloatRow>),
+    /// The problems in the order of their codes, each with its first runs behind it.
+    Problems(Items<ShownProblem>),
+    /// What the samples of each of the traces say, in order.
+    Stats(Items<ShownTrace>),
 }

@@ -2,14 +2,17 @@
 //! decimal that reads back as the value (`float_text`), or `nan`, `inf` or `-inf`.
 //!
 //! [`shown`] makes them of an answer of a volume, whose floats are ranks (`float_codes`), and takes
-//! memory for the rows of a slice alone.
+//! memory for the items of a list alone.
 #![tactic(auto)]
 
 mod float_answer;
 mod float_word;
+mod problems;
 mod showing;
 mod wording;
 
-pub use crate::float_answer::{FloatAnswer, FloatRow, ShownEnds, ShownStatistics, ShownTotals};
+pub use crate::float_answer::{
+    FloatAnswer, FloatRow, ShownEnds, ShownProblem, ShownStatistics, ShownTotals, ShownTrace,
+};
 pub use crate::float_word::FloatWord;
 pub use crate::showing::shown;

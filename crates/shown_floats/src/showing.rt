@@ -2,17 +2,20 @@
 ghost use Rattle.std.specs.Prelude.{◌≡◌, None, IfOk, IfErr, IfSome};
 ghost use Rattle.std.specs.Ordering.{int_eq};
 ghost use Rattle.float_codes.specs.Ranks.{no_number};
-ghost use Rattle.shown_floats.specs.Shows.{Shows, ShowsEnds, ShowsEndsOf, ShowsNumbers, ShowsRows, ShowsStat, ShowsTotals, IsSlice, IsOther};
+ghost use Rattle.shown_floats.specs.Shows.{Shows, ShowsEnds, ShowsEndsOf, ShowsNumbers, ShowsRows, ShowsStat, ShowsTotals, ShowsTraces, IsList, IsOther};
 
-use crate::float_answer::{FloatAnswer, FloatRow, ShownEnds, ShownStatistics, ShownTotals};
+use crate::float_answer::{
+    FloatAnswer, FloatRow, ShownEnds, ShownStatistics, ShownTotals, ShownTrace,
+};
 use crate::float_word::FloatWord;
-use bench_rules::{Answer, FloatStatistics, Items, Row};
+use crate::problems::problems;
+use bench_rules::{Answer, FloatStatistics, FloatTraceStatistics, Items, Row};
 use float_codes::{FloatFormat, NO_NUMBER};
 use std::alloc::{AllocError, Global};
 use trace_record::Statistics;
 
 /// The answer with the words of its floats, where it is one about samples; `Ok(None)` of any other.
-/// Takes memory for the rows of a slice alone, and is refused where there was none.
+/// Takes memory for the items of a list alone, and is refused where there was none.
 pub fn shown(
     alloc: Global,
     format: FloatFormat,
@@ -20,7 +23,7 @@ pub fn shown(
 ) -> Result<Option<FloatAnswer>, AllocError>
     ensures shown { IfOk result (λ o. IfSome o (λ shown. Shows format answer.now shown)) }
     ensures other { IfOk result (λ o. o ≡ None → IsOther answer.now) }
-    ensures slice { IfErr result (λ _. IsSlice answer.now) }
+    ensures list { IfErr result (λ _. IsList answer.now) }
 {
     match answer {
         Answer::Value(rank) => Ok(Some(FloatAnswer::Value(FloatWord::of(format, *rank)))),
@@ -28,6 +31,13 @@ pub fn shown(
         Answer::Totals(found) => Ok(Some(FloatAnswer::Totals(totals(format, *found)))),
         Answer::Slice(rows) => {
             Ok(Some(FloatAnswer::Slice(slice(alloc, format, rows.as_slice())?)))
+        }
+        Answer::Problems(lines) => {
+            let shown = problems(alloc, format, lines.as_slice())?;
+            Ok(Some(FloatAnswer::Problems(shown)))
+        }
+        Answer::FloatStats(traces) => {
+            Ok(Some(FloatAnswer::Stats(stats(alloc, format, traces.as_slice())?)))
         }
         _ => Ok(None),
     }
@@ -91,6 +101,23 @@ fn slice(alloc: Global, format: FloatFormat, rows: &[Row]) -> Result<Items<Float
         shown.push(FloatRow {
             row: *row,
             word: FloatWord::of(format, row.value),
+        })?;
+    }
+    Ok(Items::new(shown))
+}
+
+fn stats(
+    alloc: Global,
+    format: FloatFormat,
+    traces: &[FloatTraceStatistics],
+) -> Result<Items<ShownTrace>, AllocError>
+    ensures { IfOk result (λ shown. ShowsTraces format traces.now shown) }
+{
+    let mut shown = Vec::with_capacity(alloc, traces.len())?;
+    for trace in traces {
+        shown.push(ShownTrace {
+            trace: *trace,
+            statistics: stat(format, trace.statistics),
         })?;
     }
     Ok(Items::new(shown))

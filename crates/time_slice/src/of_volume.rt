@@ -22,9 +22,6 @@ use std::alloc::Global;
 use trace_record::{PackedRecord, Record};
 use trace_view::TraceView;
 
-// How many traces are brought nearer at once.
-const AHEAD: u32 = 32;
-
 /// Slice k, counted from 0: a row for each trace that has sample k, where samples have values, in
 /// rising order by inline, crossline and position. Inline and crossline are those of the record
 /// that stands beside the trace. One pass over them, with one look at each trace, which reads the
@@ -71,9 +68,7 @@ fn rows_in_place(
     let near = usual_place(overlay.head(), k);
     for at in 0..count {
         let p = at + 1;
-        if at % AHEAD == 0 {
-            overlay.read_ahead(p, near);
-        }
+        overlay.read_ahead(p, near);
         let packed = overlay.payload(p);
         let sample = sample_in(overlay, p, k)?;
         push_row(&mut rows, &packed.record(), p, sample)?;

@@ -1,8 +1,8 @@
 //! Does one thing many times, so that it can be timed from outside. The first argument says what.
 //!
-//! `orders`: operations on an order of traces. Then `flat` or `chunk`; the number of ids; how
-//! often; `fill`, `walk`, `get`, `place`, `insert`, `remove` or `move`. It prints a sum of the
-//! answers, which is the same each time.
+//! `orders`: operations on an order of traces. Then the number of ids; how often; `fill`, `walk`,
+//! `get`, `insert`, `remove` or `move`. It prints a sum of the answers, which is the same each
+//! time.
 //!
 //! `records`: the record of each trace of a SEG-Y file. Then the file; `load`, which only loads it,
 //! or `records`, which makes the record of each trace too. It prints the number of traces, and of
@@ -28,9 +28,9 @@ fn main(rt: HostRuntime) -> io::Result<()> {
     let mut next = || words.next().unwrap_or(String::new(alloc));
     let (what, first, second) = (next(), next(), next());
     if what.as_str() == "orders" {
-        let (third, fourth) = (next(), next());
-        let (ids, times) = (number(second.as_str()), number(third.as_str()));
-        let sum = sum_of(alloc, first.as_str(), ids, times, fourth.as_str());
+        let name = next();
+        let (ids, times) = (number(first.as_str()), number(second.as_str()));
+        let sum = sum_of(alloc, ids, times, name.as_str());
         return println!(rt; "{sum}");
     }
     let Some((traces, total)) = count_records(&rt, first.as_str(), second.as_str() == "records")

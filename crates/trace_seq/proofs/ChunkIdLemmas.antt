@@ -1,25 +1,18 @@
--- Chunks that are joined, cut or changed: their ids, their keys, and what holds of each.
-use Rattle.std.proofs.Common.{◌≡◌, ◌≢◌, ℕ, zero, suc, ◌+◌, ◌-◌, ◌*◌, ◌<◌, ◌≤◌, List, [], ◌∷◌, ◌++◌, length, get_or, set, take, drop, refl, sym, ap, ◌∙◌, subst, arith, zero-add, add-zero, add-one, length-append, append_assoc, inl, inr}
+-- Chunks that are joined, cut or changed: their ids, and what holds of each.
+use Rattle.std.proofs.Common.{◌≡◌, ℕ, zero, suc, ◌+◌, ◌-◌, ◌*◌, ◌<◌, ◌≤◌, List, [], ◌∷◌, ◌++◌, length, get_or, set, take, drop, refl, sym, ap, ◌∙◌, arith, add-zero, add-one, length-append, append_assoc}
 use Rattle.std.specs.List.{insert, remove, AllByRecursion}
 use Rattle.std.proofs.Math.Seq.{split_at}
 use Rattle.std.specs.Prelude.{slice_get, Some}
-use Rattle.std.proofs.lemmas.Bool.{cases_lt}
 use Rattle.std.proofs.lemmas.Option.{slice_get-get_or}
 use Rattle.std.proofs.lemmas.List.{take-append-drop, take_all, get_or-append-add, get_or_append_left}
 use Rattle.std.proofs.lemmas.List.Edits.{insert-append_left, insert-append_right, remove-append_left, remove-append_right}
 use Rattle.std.proofs.lemmas.Grind.{common_steps}
 use Rattle.trace_seq.specs.declared.chunk.Chunk.{Chunk}
-use Rattle.trace_seq.specs.Order.{times}
-use Rattle.trace_seq.specs.Chunks.{size, ids_of, size_at, count_with_key, IsFilled, IsHome, AreThick}
-use Rattle.trace_seq.proofs.TimeLemmas.{times-append}
+use Rattle.trace_seq.specs.Chunks.{size, ids_of, size_at, IsFilled, AreThick}
 
 pub joined-append : (xs ys : List Chunk) → ids_of (xs ++ ys) ≡ ids_of xs ++ ids_of ys
 joined-append [] ys = refl
 joined-append (c ∷ cs) ys = ap (λ l. c.ids.items ++ l) (joined-append cs ys) ∙ sym (append_assoc c.ids.items (ids_of cs) (ids_of ys))
-
-pub keyed-append : (key : ℕ) (xs ys : List Chunk) → count_with_key key (xs ++ ys) ≡ count_with_key key xs + count_with_key key ys
-keyed-append key [] ys = sym (zero-add _)
-keyed-append key (c ∷ cs) ys = omega (arith, keyed-append key cs ys)
 
 pub each-front : (P : Chunk → Type 0) (xs ys : List Chunk) → AllByRecursion P (xs ++ ys) → AllByRecursion P xs
 each-front P [] ys h = tt
@@ -32,23 +25,6 @@ each-back P (c ∷ cs) ys h = each-back P cs ys h.1
 pub each-append : (P : Chunk → Type 0) (xs ys : List Chunk) → AllByRecursion P xs → AllByRecursion P ys → AllByRecursion P (xs ++ ys)
 each-append P [] ys f h = h
 each-append P (c ∷ cs) ys f h = (f.0, each-append P cs ys f.1 h)
-
-pub keyed-one : (c : Chunk) → count_with_key c.key (c ∷ []) ≡ 1
-keyed-one c = grind (arith, common_steps)
-
-pub keyed-self : (c : Chunk) → 0 < count_with_key c.key (c ∷ [])
-keyed-self c = omega (arith, keyed-one c)
-
-pub keyed-other : (key : ℕ) (c : Chunk) → c.key ≢ key → count_with_key key (c ∷ []) ≡ 0
-keyed-other key c h = grind (arith, common_steps)
-
-pub key-is : (key : ℕ) (c : Chunk) → count_with_key key (c ∷ []) ≡ 1 → c.key ≡ key
-key-is key c h = grind (arith, common_steps)
-
-pub keyed-take-suc : (key : ℕ) (cs : List Chunk) (k : ℕ) (c : Chunk) → k < length cs → c ≡ get_or cs k c → count_with_key key (take (suc k) cs) ≡ count_with_key key (take k cs) + count_with_key key (c ∷ [])
-keyed-take-suc key [] k c h read = absurd (omega arith)
-keyed-take-suc key (x ∷ xs) zero c h read = ap (λ d. count_with_key key (d ∷ [])) (sym read) ∙ sym (zero-add _)
-keyed-take-suc key (x ∷ xs) (suc k) c h read = let e : k < length xs = omega arith in omega (arith, keyed-take-suc key xs k c e read)
 
 -- a list of chunks around the chunk at k
 pub around : (cs : List Chunk) (k : ℕ) (c : Chunk) → k < length cs → c ≡ get_or cs k c → cs ≡ take k cs ++ (c ∷ drop (suc k) cs)
@@ -80,13 +56,6 @@ joined-take (x ∷ xs) (suc k) c h read =
 -- the ids around those of some chunks
 pub joined-middle : (front mid back : List Chunk) → ids_of (front ++ (mid ++ back)) ≡ ids_of front ++ (ids_of mid ++ ids_of back)
 joined-middle front mid back = joined-append front (mid ++ back) ∙ ap (λ l. ids_of front ++ l) (joined-append mid back)
-
-pub times-middle : (id : ℕ) (front mid back : List Chunk) → times id (ids_of (front ++ (mid ++ back))) ≡ times id (ids_of front) + (times id (ids_of mid) + times id (ids_of back))
-times-middle id front mid back =
-    ap (times id) (joined-middle front mid back) ∙ omega (arith, times-append id (ids_of front) (ids_of mid ++ ids_of back), times-append id (ids_of mid) (ids_of back))
-
-pub keyed-middle : (key : ℕ) (front mid back : List Chunk) → count_with_key key (front ++ (mid ++ back)) ≡ count_with_key key front + (count_with_key key mid + count_with_key key back)
-keyed-middle key front mid back = omega (arith, keyed-append key front (mid ++ back), keyed-append key mid back)
 
 pub joined-insert : (front back : List Chunk) (c d : Chunk) (offset id : ℕ) → offset ≤ size c → d.ids.items ≡ insert c.ids.items offset id → ids_of (front ++ (d ∷ back)) ≡ insert (ids_of (front ++ (c ∷ back))) (length (ids_of front) + offset) id
 joined-insert front back c d offset id within is =
@@ -134,19 +103,6 @@ thick-more n m (c ∷ cs) le h = let more : 256 < m + size c = omega (arith, h.0
 pub last_size-filled : (n : ℕ) (cs : List Chunk) → 0 < n → AllByRecursion IsFilled cs → 0 < last_size n cs
 last_size-filled n [] some h = some
 last_size-filled n (c ∷ cs) some h = last_size-filled (size c) cs h.0.0 h.1
-
--- what the vector tells of the ids in the chunks is all that matters
-pub homes-same : (home other : List ℕ) (cs : List Chunk) → length home ≤ length other → ((id : ℕ) → 0 < times id (ids_of cs) → get_or other id 0 ≡ get_or home id 0) → AllByRecursion (IsHome home) cs → AllByRecursion (IsHome other) cs
-homes-same home other [] le same h = tt
-homes-same home other (c ∷ cs) le same h = (
-  λ id held.
-      let there : 0 < times id (ids_of (c ∷ cs)) = omega (arith, times-append id c.ids.items (ids_of cs), held) in
-      let short : id < length other = omega (arith, (h.0 id held).0, le) in
-      (short, same id there ∙ (h.0 id held).1),
-  homes-same home other cs le (λ id held.
-      let there : 0 < times id (ids_of (c ∷ cs)) = omega (arith, times-append id c.ids.items (ids_of cs), held) in
-      same id there) h.1,
-)
 
 -- a spot in a chunk is a place among all ids
 pub place-within : (cs : List Chunk) (k offset : ℕ) → offset ≤ size_at cs k → length (ids_of (take k cs)) + offset ≤ length (ids_of cs)
@@ -273,12 +229,6 @@ last_size-all (x ∷ xs) full =
     let end : length (x ∷ xs) - 1 ≡ length xs = omega arith in
     omega (arith, full (omega arith), ap (size_at (x ∷ xs)) end, last_size-take 257 (x ∷ xs) (length xs) (omega arith), ap (last_size 257) all)
 
--- what the vector tells of the ids in the chunk at k
-pub home-at : (home : List ℕ) (cs : List Chunk) (k : ℕ) (c : Chunk) → k < length cs → c ≡ get_or cs k c → AllByRecursion (IsHome home) cs → IsHome home c
-home-at home [] k c h read all = absurd (omega arith)
-home-at home (x ∷ xs) zero c h read all = let P : Chunk → Type 0 = IsHome home in subst P (sym read) all.0
-home-at home (x ∷ xs) (suc k) c h read all = let e : k < length xs = omega arith in home-at home xs k c e read all.1
-
 pub chunks-few : (cs : List Chunk) → AllByRecursion IsFilled cs → length cs ≤ length (ids_of cs)
 chunks-few [] all = omega arith
 chunks-few (c ∷ cs) all = omega (arith, chunks-few cs all.1, all.0.0, length-append c.ids.items (ids_of cs))
@@ -297,26 +247,6 @@ thick-at n (x ∷ (y ∷ ys)) (suc k) h all =
     let e : k + 1 < length (y ∷ ys) = omega arith in
     rw (add-one (suc k)) (rw (add-one k) at (thick-at (size x) (y ∷ ys) k e all.1))
 
--- an id that is held has an entry in the vector
-pub held-home : (home : List ℕ) (cs : List Chunk) (id : ℕ) → AllByRecursion (IsHome home) cs → 0 < times id (ids_of cs) → id < length home
-held-home home [] id all held = absurd (omega arith)
-held-home home (c ∷ cs) id all held = elim (cases_lt 0 (times id c.ids.items)) [
-  | inl inside ↦ (all.0 id inside).0
-  | inr outside ↦ held-home home cs id all.1 (omega (arith, held, outside, times-append id c.ids.items (ids_of cs)))
-]
-
--- no chunk has the key that the vector tells: the id is not held
-pub absent-key : (home : List ℕ) (cs : List Chunk) (id : ℕ) → AllByRecursion (IsHome home) cs → count_with_key (get_or home id 0) cs ≡ 0 → times id (ids_of cs) ≡ 0
-absent-key home [] id all none = refl
-absent-key home (c ∷ cs) id all none =
-    let rest = absent-key home cs id all.1 (omega (arith, none)) in
-    elim (cases_lt 0 (times id c.ids.items)) [
-      | inl inside ↦
-          let same : get_or home id 0 ≡ c.key = (all.0 id inside).1 in
-          absurd (omega (arith, none, ap (λ i. count_with_key i (c ∷ [])) same, keyed-self c))
-      | inr outside ↦ omega (arith, outside, rest, times-append id c.ids.items (ids_of cs))
-    ]
-
 -- the id at a spot
 pub get-joined : (cs : List Chunk) (k offset : ℕ) (c : Chunk) → k < length cs → c ≡ get_or cs k c → offset < size c → slice_get (ids_of cs) (length (ids_of (take k cs)) + offset) ≡ slice_get c.ids.items offset
 get-joined cs k offset c short read within =
@@ -329,23 +259,6 @@ get-joined cs k offset c short read within =
     ∙ get_or-append-add front (c.ids.items ++ back) offset 0
     ∙ get_or_append_left c.ids.items back 0 offset within)
     ∙ sym (slice_get-get_or c.ids.items offset 0 within)
-
--- an id that its chunk does not hold is held nowhere
-pub absent-chunk : (home : List ℕ) (cs : List Chunk) (k : ℕ) (c : Chunk) (id : ℕ) → k < length cs → c ≡ get_or cs k c → AllByRecursion (IsHome home) cs → count_with_key (get_or home id 0) cs ≤ 1 → get_or home id 0 ≡ c.key → times id c.ids.items ≡ 0 → times id (ids_of cs) ≡ 0
-absent-chunk home cs k c id short read all one same none =
-    let P : List Chunk → Type 0 = AllByRecursion (IsHome home) in
-    let key = get_or home id 0 in
-    let parts : AllByRecursion (IsHome home) (take k cs ++ (c ∷ drop (suc k) cs)) = subst P (around cs k c short read) all in
-    let sum = keyed-append key (take k cs) (c ∷ drop (suc k) cs) in
-    let here : count_with_key key (c ∷ []) ≡ 1 = ap (λ i. count_with_key i (c ∷ [])) same ∙ keyed-one c in
-    let all-keys = ap (count_with_key key) (around cs k c short read) in
-    let ahead = absent-key home (take k cs) id (each-front (IsHome home) (take k cs) (c ∷ drop (suc k) cs) parts) (omega (arith, one, all-keys, sum, here)) in
-    let behind = absent-key home (drop (suc k) cs) id (each-back (IsHome home) (c ∷ []) (drop (suc k) cs) (each-back (IsHome home) (take k cs) (c ∷ drop (suc k) cs) parts)) (omega (arith, one, all-keys, sum, here)) in
-    omega (arith, ap (λ l. times id (ids_of l)) (around cs k c short read), times-middle id (take k cs) (c ∷ []) (drop (suc k) cs), times-append id c.ids.items [], ahead, behind, none)
-
--- one chunk more
-pub keyed-take : (key : ℕ) (cs : List Chunk) (k : ℕ) (c : Chunk) → k < length cs → c ≡ get_or cs k c → count_with_key key (take (k + 1) cs) ≡ count_with_key key (take k cs) + count_with_key key (c ∷ [])
-keyed-take key cs k c short read = rw (add-one k) (keyed-take-suc key cs k c short read)
 
 pub size-set : (cs : List Chunk) (k : ℕ) (c : Chunk) → k < length cs → size_at (set cs k c) k ≡ size c
 size-set [] k c h = absurd (omega arith)

@@ -1,11 +1,10 @@
 -- How many ids stand in front of chunks, where the chunks change.
-use Rattle.std.proofs.Common.{◌≡◌, ℕ, zero, suc, ◌+◌, ◌-◌, ◌*◌, ◌/◌, ◌<◌, ◌≤◌, List, [], ◌∷◌, ◌++◌, length, get_or, set, take, refl, ap, sym, ◌∙◌, arith, add-one, length-append, inl, inr}
+use Rattle.std.proofs.Common.{◌≡◌, ℕ, zero, suc, ◌+◌, ◌*◌, ◌/◌, ◌<◌, ◌≤◌, List, [], ◌∷◌, length, get_or, set, take, refl, ap, sym, ◌∙◌, arith, add-one, length-append, inl, inr}
 use Rattle.std.specs.Prelude.{slice_index}
 use Rattle.std.proofs.lemmas.Bool.{cases_lt}
-use Rattle.std.proofs.lemmas.List.{take-append-le, take_all}
 use Rattle.trace_seq.specs.declared.chunk.Chunk.{Chunk}
 use Rattle.trace_seq.specs.Chunks.{ids_of, size, size_at}
-use Rattle.trace_seq.specs.Fronts.{front, groups_of, AreFronts, AreKept, AreRaised}
+use Rattle.trace_seq.specs.Fronts.{front, AreFronts, AreKept, AreRaised}
 use Rattle.trace_seq.proofs.ChunkIdLemmas.{size-read, size-step}
 
 -- one chunk more in front
@@ -16,15 +15,6 @@ pub front-le : (cs : List Chunk) (k : ℕ) → front cs k ≤ length (ids_of cs)
 front-le cs zero = omega arith
 front-le [] (suc k) = omega arith
 front-le (x ∷ xs) (suc k) = omega (arith, front-le xs k, length-append x.ids.items (ids_of (take k xs)), length-append x.ids.items (ids_of xs))
-
--- the further back, the more stand in front
-pub front-rises : (cs : List Chunk) (j k : ℕ) → j ≤ k → front cs j ≤ front cs k
-front-rises cs zero k h = omega arith
-front-rises [] (suc j) k h = omega arith
-front-rises (x ∷ xs) (suc j) zero h = absurd (omega arith)
-front-rises (x ∷ xs) (suc j) (suc k) h =
-    let e : j ≤ k = omega arith in
-    omega (arith, front-rises xs j k e, length-append x.ids.items (ids_of (take j xs)), length-append x.ids.items (ids_of (take k xs)))
 
 -- what stands in front of the chunk at j, where that at k is another
 front-set_below : (cs : List Chunk) (k j : ℕ) (d : Chunk) → j ≤ k → front (set cs k d) j ≡ front cs j
@@ -86,18 +76,3 @@ fronts-few cs g fs right within = omega (arith, right g within, front-le cs (16 
 -- an id more behind all, and the numbers are still right
 pub fronts-kept : (cs ds : List Chunk) (fs : List ℕ) → AreKept cs ds → 16 * length fs ≤ length ds + 15 → AreFronts cs fs → AreFronts ds fs
 fronts-kept cs ds fs kept few right = λ g within. right g within ∙ sym (kept (16 * g) (omega arith))
-
--- ---- a place is found
-
--- a place in front of another group is in this one
-pub few-chunks : (cs : List Chunk) (fs : List ℕ) (number k offset place : ℕ) → AreFronts cs fs → length fs ≡ groups_of (length cs) → (0 < number → number < length fs) → (number + 1 < length fs → place < slice_index fs (number + 1))
-    → front cs k + offset ≡ place → k < length cs → 16 * number ≤ k → (length fs - 1) + (k + 1 - 16 * number) ≤ length cs
-few-chunks cs fs number k offset place right groups within behind at short from = elim (cases_lt (number + 1) (length fs)) [
-  | inl more ↦
-      let stop : place < front cs (16 * (number + 1)) = omega (arith, behind more, right (number + 1) more) in
-      elim (cases_lt k (16 * (number + 1))) [
-        | inl near ↦ omega (arith, near, groups, more, from)
-        | inr far ↦ absurd (omega (arith, front-rises cs (16 * (number + 1)) k far, stop, at))
-      ]
-  | inr last ↦ omega (arith, last, groups, short, from, within)
-]

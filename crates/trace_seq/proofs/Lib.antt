@@ -3,3 +3,8 @@ pub mod ChunkIdLemmas
 pub mod SoundLemmas
 pub mod FrontLemmas
 pub mod PositionLemmas
+pub mod ThinLemmas
+pub mod PassedLemmas
+pub mod SettleLemmas
+pub mod ThinChunkLemmas
+pub mod TogetherLemmas

@@ -1,9 +1,9 @@
 -- How often an id stands in a list that was joined, cut or changed.
-use Rattle.std.proofs.Common.{◌≡◌, ◌≢◌, ℕ, zero, suc, ◌+◌, ◌<◌, ◌≤◌, List, [], ◌∷◌, ◌++◌, length, get_or, take, drop, sym, ap, ◌∙◌, subst, arith, zero-add, add-one}
+use Rattle.std.proofs.Common.{◌≡◌, ◌≢◌, ℕ, zero, suc, ◌+◌, ◌<◌, ◌≤◌, List, [], ◌∷◌, ◌++◌, length, get_or, take, drop, sym, ap, ◌∙◌, arith, zero-add, add-one}
 use Rattle.std.specs.List.{insert, remove}
 use Rattle.std.proofs.lemmas.List.{take-append-drop}
 use Rattle.std.proofs.lemmas.Grind.{common_steps}
-use Rattle.trace_seq.specs.Order.{times, AreDistinct, AreBelow}
+use Rattle.trace_seq.specs.Order.{times, AreDistinct}
 
 pub times-append : (id : ℕ) (xs ys : List ℕ) → times id (xs ++ ys) ≡ times id xs + times id ys
 times-append id [] ys = omega arith
@@ -51,14 +51,8 @@ same-times id x h = grind (arith, common_steps)
 pub distinct-insert : (xs : List ℕ) (i x : ℕ) → times x xs ≡ 0 → AreDistinct xs → AreDistinct (insert xs i x)
 distinct-insert xs i x absent h id = grind (arith, common_steps, times-insert id xs i x, times-one id x, same-times id x, h id)
 
-pub below-insert : (bound : ℕ) (xs : List ℕ) (i x : ℕ) → x < bound → AreBelow bound xs → AreBelow bound (insert xs i x)
-below-insert bound xs i x low h id held = grind (arith, common_steps, times-insert id xs i x, times-one id x, same-times id x, h id)
-
 pub distinct-remove : (xs : List ℕ) (i : ℕ) → i < length xs → AreDistinct xs → AreDistinct (remove xs i)
 distinct-remove xs i short h id = omega (arith, times-remove id xs i 0 short, h id)
-
-pub below-remove : (bound : ℕ) (xs : List ℕ) (i : ℕ) → i < length xs → AreBelow bound xs → AreBelow bound (remove xs i)
-below-remove bound xs i short h id held = let more : 0 < times id xs = omega (arith, times-remove id xs i 0 short) in h id more
 
 -- an id that was taken out of a list of distinct ids is not left in it
 pub absent-remove : (xs : List ℕ) (i d : ℕ) → i < length xs → AreDistinct xs → times (get_or xs i d) (remove xs i) ≡ 0
@@ -66,11 +60,6 @@ absent-remove xs i d short h = omega (arith, times-remove (get_or xs i d) xs i d
 
 pub distinct-move : (xs : List ℕ) (i j x : ℕ) → i < length xs → x ≡ get_or xs i x → AreDistinct xs → AreDistinct (insert (remove xs i) j x)
 distinct-move xs i j x short read h = distinct-insert (remove xs i) j x (ap (λ y. times y (remove xs i)) read ∙ absent-remove xs i x short h) (distinct-remove xs i short h)
-
-pub below-move : (bound : ℕ) (xs : List ℕ) (i j x : ℕ) → i < length xs → x ≡ get_or xs i x → AreBelow bound xs → AreBelow bound (insert (remove xs i) j x)
-below-move bound xs i j x short read h =
-    let held : 0 < times x xs = let P : ℕ → Type 0 = λ y. 0 < times y xs in subst P (sym read) (times-get xs i x short) in
-    below-insert bound (remove xs i) j x (h x held) (below-remove bound xs i short h)
 
 -- an id that was not held is held once with itself
 pub once-more : (x id : ℕ) (ids : List ℕ) → times id ids ≡ 0 → times x ids ≤ 1 → times x (id ∷ []) + times x ids ≤ 1

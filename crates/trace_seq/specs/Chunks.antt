@@ -1,12 +1,10 @@
--- Ids in chunks: a list of chunks, one behind another, and a vector that tells of each id the key of its chunk.
-use Rattle.std.specs.Prelude.{ℕ, zero, suc, ◌+◌, ◌≡◌, ◌<◌, ◌≤◌, ◌==◌, List, [], ◌∷◌, ◌++◌, length, take, slice_index, if◌then◌else◌}
+-- Ids in chunks: a list of chunks, one behind another.
+use Rattle.std.specs.Prelude.{ℕ, zero, suc, ◌+◌, ◌≡◌, ◌<◌, ◌≤◌, List, [], ◌∷◌, ◌++◌, length, take}
 use Rattle.std.specs.List.{AllByRecursion}
 use Rattle.std.specs.Vec.{vec_capacity}
 use Rattle.trace_seq.specs.declared.chunk.Chunk.{Chunk}
-use Rattle.trace_seq.specs.declared.chunk.Found.{Found}
 use Rattle.trace_seq.specs.declared.chunk.Spot.{Spot}
 use Rattle.trace_seq.specs.declared.chunk_list.ChunkList.{ChunkList}
-use Rattle.trace_seq.specs.Order.{times, AreDistinct}
 
 -- how many ids a chunk holds
 abbrev pub size : Chunk → ℕ
@@ -27,15 +25,6 @@ size_at (c ∷ cs) (suc k) = size_at cs k
 abbrev pub place_at : List Chunk → Spot → ℕ
 place_at cs s = length (ids_of (take s.chunk cs)) + s.offset
 
--- how many of the chunks have the key
-abbrev pub count_with_key : ℕ → List Chunk → ℕ
-count_with_key key [] = 0
-count_with_key key (c ∷ cs) = (if c.key == key then 1 else 0) + count_with_key key cs
-
--- the first chunk with the key stands there, and so many ids in front of it
-abbrev pub HasKey : List Chunk → ℕ → Found → Type 0
-HasKey cs key f = (count_with_key key (take f.chunk cs) ≡ 0) × (count_with_key key (take (f.chunk + 1) cs) ≡ 1) × (f.chunk < length cs) × (f.before ≡ length (ids_of (take f.chunk cs)))
-
 -- a chunk that is in use: it is not empty, and holds at most 512 ids in room for so many
 abbrev pub IsFilled : Chunk → Type 0
 IsFilled c = (0 < size c) × (size c ≤ 512) × (512 ≤ vec_capacity c.ids)
@@ -44,26 +33,17 @@ IsFilled c = (0 < size c) × (size c ≤ 512) × (512 ≤ vec_capacity c.ids)
 abbrev pub IsEmpty : Chunk → Type 0
 IsEmpty c = (c.ids.items ≡ []) × (512 ≤ vec_capacity c.ids)
 
--- the vector has, for each id in the chunk, the chunk's key
-abbrev pub IsHome : List ℕ → Chunk → Type 0
-IsHome home c = (id : ℕ) → 0 < times id c.ids.items → (id < length home) × (slice_index home id ≡ c.key)
-
 -- two chunks side by side hold more than 256 ids together; `before` is what the chunk in front holds
 abbrev pub AreThick : ℕ → List Chunk → Type 0
 AreThick before [] = Unit {0}
 AreThick before (c ∷ cs) = (256 < before + size c) × AreThick (size c) cs
 
--- what holds of the chunks in use, the spare ones and the vector
-pub record IsSound (chunks spares : List Chunk) (home : List ℕ) : Type 0 where
+-- what holds of the chunks in use and the spare ones
+pub record IsSound (chunks spares : List Chunk) : Type 0 where
   pub filled : AllByRecursion IsFilled chunks
   pub empty : AllByRecursion IsEmpty spares
   -- in front of the first chunk any number will do
   pub thick : AreThick 257 chunks
-  pub homes : AllByRecursion (IsHome home) chunks
-  -- no key is given twice, and they are the numbers below that of the chunks
-  pub one_each : (key : ℕ) → count_with_key key chunks + count_with_key key spares ≤ 1
-  pub low : (key : ℕ) → 0 < count_with_key key chunks + count_with_key key spares → key < length chunks + length spares
-  pub distinct : AreDistinct (ids_of chunks)
 
 -- how many chunks there are, in use and spare
 abbrev pub chunk_count : ChunkList → ℕ
@@ -71,7 +51,7 @@ chunk_count s = length s.chunks.items + length s.spares.items
 
 -- what holds of the whole between two calls: there is room for each chunk among those in use and among the spare ones
 pub record IsWhole (s : ChunkList) : Type 0 where
-  pub sound : IsSound s.chunks.items s.spares.items s.home.items
+  pub sound : IsSound s.chunks.items s.spares.items
   pub chunk_room : length s.chunks.items + length s.spares.items ≤ vec_capacity s.chunks
   pub spare_room : length s.chunks.items + length s.spares.items ≤ vec_capacity s.spares
   pub count : s.count ≡ length (ids_of s.chunks.items)

@@ -1,6 +1,7 @@
 -- Orders worked out, read by the definitions.
-use Rattle.std.specs.Prelude.{◌≡◌, [], ◌∷◌, Some, None, refl}
+use Rattle.std.specs.Prelude.{◌≡◌, ℕ, [], ◌∷◌, Some, None, refl}
 use Rattle.trace_seq.specs.Order.{times, id_at, with_id, without_id, with_id_moved}
+use Rattle.trace_seq.specs.Without.{taken_out, without_each}
 
 -- an id in front of all, and behind all
 pub put_in_front : with_id (4 ∷ 7 ∷ []) 1 9 ≡ 9 ∷ 4 ∷ 7 ∷ []
@@ -9,8 +10,8 @@ put_in_front = refl
 pub put_behind : with_id (4 ∷ 7 ∷ []) 3 9 ≡ 4 ∷ 7 ∷ 9 ∷ []
 put_behind = refl
 
-pub taken_out : without_id (4 ∷ 7 ∷ 9 ∷ []) 2 ≡ 4 ∷ 9 ∷ []
-taken_out = refl
+pub second_taken_out : without_id (4 ∷ 7 ∷ 9 ∷ []) 2 ≡ 4 ∷ 9 ∷ []
+second_taken_out = refl
 
 -- the target counts in what is left: to 3 of three is behind all
 pub moved_behind : with_id_moved (4 ∷ 7 ∷ 9 ∷ []) 1 3 ≡ 7 ∷ 9 ∷ 4 ∷ []
@@ -36,3 +37,14 @@ none_behind = refl
 
 pub twice : times 7 (7 ∷ 4 ∷ 7 ∷ []) ≡ 2
 twice = refl
+
+-- the first and the third of four; there is no fifth
+pub two_taken_out : without_each {T = ℕ} (4 ∷ 7 ∷ 9 ∷ 2 ∷ []) (1 ∷ 3 ∷ 5 ∷ []) ≡ 7 ∷ 2 ∷ []
+two_taken_out = refl
+
+-- the same, one after the other
+pub one_by_one : taken_out {T = ℕ} (4 ∷ 7 ∷ 9 ∷ 2 ∷ []) (1 ∷ 3 ∷ 5 ∷ []) ≡ 7 ∷ 2 ∷ []
+one_by_one = refl
+
+pub all_stay : without_each {T = ℕ} (4 ∷ 7 ∷ []) [] ≡ 4 ∷ 7 ∷ []
+all_stay = refl

@@ -3,3 +3,5 @@ pub mod Chunks
 pub mod Fronts
 pub mod Examples
 pub mod Laws
+pub mod Without
+pub mod Settling

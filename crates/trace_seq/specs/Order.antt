@@ -1,18 +1,11 @@
--- The order of traces: a list of ids, in which no id stands twice.
-use Rattle.std.specs.Prelude.{ℕ, ◌+◌, ◌-◌, ◌<◌, ◌≤◌, ◌==◌, List, [], ◌∷◌, slice_get, slice_index, if◌then◌else◌, Option, None}
+-- The order of traces: a list of ids.
+use Rattle.std.specs.Prelude.{ℕ, ◌+◌, ◌-◌, ◌≤◌, ◌==◌, List, [], ◌∷◌, slice_get, slice_index, if◌then◌else◌, Option, None}
 use Rattle.std.specs.List.{insert, remove}
 
--- an order, and what is promised of it: ids below `bound` may be inserted, and `spare` inserts or moves need no memory
-pub record Order : Type 0 where
-  pub ids : List ℕ
-  pub bound : ℕ
-  pub spare : ℕ
-
--- an order that is kept in so many chunks, and what is promised of it
+-- an order that is kept in so many chunks, and how many inserts or moves need no memory
 pub record ChunkOrder : Type 0 where
   pub ids : List ℕ
   pub chunks : ℕ
-  pub bound : ℕ
   pub spare : ℕ
 
 -- how often the id stands in the list
@@ -23,10 +16,6 @@ times id (x ∷ xs) = (if x == id then 1 else 0) + times id xs
 -- no id stands twice
 abbrev pub AreDistinct : List ℕ → Type 0
 AreDistinct ids = (id : ℕ) → times id ids ≤ 1
-
--- each id that is held is below the bound
-abbrev pub AreBelow : ℕ → List ℕ → Type 0
-AreBelow bound ids = (id : ℕ) → 0 < times id ids → id < bound
 
 -- the id at position p, from 1
 abbrev pub id_at : List ℕ → ℕ → Option ℕ

@@ -7,10 +7,9 @@ use crate::room::insert_within;
 /// How many ids a chunk has room for.
 pub const ROOM: usize = 512;
 
-/// Ids that stand side by side, and the key that tells this chunk from the others.
+/// Ids that stand side by side.
 #[derive(Drop)]
 pub struct Chunk {
-    pub key: u32,
     pub ids: Vec<usize>,
 }
 
@@ -21,19 +20,11 @@ pub struct Spot {
     pub offset: usize,
 }
 
-/// A chunk by its place in a list of chunks, from 0, and how many ids stand in front of it.
-#[derive(Clone, Copy)]
-pub struct Found {
-    pub chunk: usize,
-    pub before: usize,
-}
-
 impl Chunk {
     pub fn insert(&mut self, offset: usize, id: usize)
         requires within { offset ≤ length self.old.ids.items }
         requires few { length self.old.ids.items < 512 }
         requires room { 512 ≤ vec_capacity self.old.ids }
-        ensures key { self.new.key ≡ self.old.key }
         ensures ids { self.new.ids.items ≡ insert self.old.ids.items offset id }
         ensures room { 512 ≤ vec_capacity self.new.ids }
     {
@@ -43,7 +34,6 @@ impl Chunk {
     pub fn remove(&mut self, offset: usize)
         requires within { offset < length self.old.ids.items }
         requires room { 512 ≤ vec_capacity self.old.ids }
-        ensures key { self.new.key ≡ self.old.key }
         ensures ids { self.new.ids.items ≡ remove self.old.ids.items offset }
         ensures room { 512 ≤ vec_capacity self.new.ids }
     {
@@ -56,8 +46,6 @@ impl Chunk {
         requires room { 512 ≤ vec_capacity self.old.ids }
         requires empty { fresh.old.ids.items ≡ [] }
         requires fresh_room { 512 ≤ vec_capacity fresh.old.ids }
-        ensures key { self.new.key ≡ self.old.key }
-        ensures fresh_key { fresh.new.key ≡ fresh.old.key }
         ensures ids { self.new.ids.items ≡ take 256 self.old.ids.items }
         ensures fresh_ids { fresh.new.ids.items ≡ drop 256 self.old.ids.items }
         ensures room { 512 ≤ vec_capacity self.new.ids }
@@ -75,8 +63,6 @@ impl Chunk {
         requires fits { length self.old.ids.items + length next.old.ids.items ≤ 512 }
         requires room { 512 ≤ vec_capacity self.old.ids }
         requires next_room { 512 ≤ vec_capacity next.old.ids }
-        ensures key { self.new.key ≡ self.old.key }
-        ensures next_key { next.new.key ≡ next.old.key }
         ensures ids { self.new.ids.items ≡ self.old.ids.items ++ next.old.ids.items }
         ensures next_ids { next.new.ids.items ≡ [] }
         ensures room { 512 ≤ vec_capacity self.new.ids }

@@ -2,14 +2,14 @@ ghost use Rattle.std.specs.Prelude.{◌≡◌, ◌+◌, ◌-◌, ◌<◌, ◌≤
 ghost use Rattle.std.specs.Bool.{OnTrue, OnFalse};
 ghost use Rattle.std.specs.List.{insert, remove};
 ghost use Rattle.std.specs.Vec.{vec_capacity};
-ghost use Rattle.trace_seq.specs.Order.{times};
-ghost use Rattle.trace_seq.specs.Chunks.{ids_of, size_at, place_at, chunk_count, count_with_key, HasKey, IsEmpty, IsWhole};
+ghost use Rattle.trace_seq.specs.Chunks.{ids_of, size_at, place_at, chunk_count, IsEmpty, IsWhole};
 ghost use Rattle.trace_seq.specs.Fronts.{AreKept, AreRaised};
+ghost use Rattle.trace_seq.specs.Without.{without_each, AreRising};
 
-use crate::chunk::{Chunk, Found, ROOM, Spot};
+use crate::chunk::{Chunk, ROOM, Spot};
 use crate::out_of_memory::OutOfMemory;
 use crate::room::{insert_within, push_within};
-use crate::scan::find_id;
+use crate::thinning::{pour, settle_all, thin_all};
 use std::alloc::Global;
 
 /// How full a chunk is where ids are put behind all others.
@@ -18,49 +18,31 @@ pub const FILL: usize = 384;
 /// Two chunks side by side hold more than 256 ids: with so many they may not lose one.
 const THIN: usize = 257;
 
-/// Chunks in order, spare ones, and for each id the key of the chunk that holds it.
+/// Chunks in order, spare ones, and how many ids they hold.
 #[derive(Drop)]
 pub struct ChunkList {
     pub chunks: Vec<Chunk>,
     pub spares: Vec<Chunk>,
-    pub home: Vec<u32>,
     pub count: u32,
 }
 
-/// Gives each of the ids the key.
-pub fn point(home: &mut Vec<u32>, ids: &[usize], key: u32)
-    requires { (id : ℕ) → 0 < times id ids.now → id < length home.old.items }
-    ensures length { length home.new.items ≡ length home.old.items }
-    ensures keys { (id : ℕ) → 0 < times id ids.now → slice_index home.new.items id ≡ key }
-    ensures others { (id : ℕ) → times id ids.now ≡ 0 →
-        slice_index home.new.items id ≡ slice_index home.old.items id }
-{
-    for id in ids {
-        home[*id] = key;
-    }
-}
-
 impl ChunkList {
-    /// Puts an id that is not held at a spot of a chunk that is not full.
+    /// Puts an id at a spot of a chunk that is not full.
     pub fn put(&mut self, spot: Spot, id: usize)
         requires whole { IsWhole self.old }
         requires chunk { spot.chunk < length self.old.chunks.items }
         requires offset { spot.offset ≤ size_at self.old.chunks.items spot.chunk }
         requires room { size_at self.old.chunks.items spot.chunk < 512 }
         requires few { self.old.count < 2 ^ 32 - 1 }
-        requires below { id < length self.old.home.items }
-        requires absent { times id (ids_of self.old.chunks.items) ≡ 0 }
         ensures whole { IsWhole self.new }
         ensures ids { ids_of self.new.chunks.items ≡ insert (ids_of self.old.chunks.items)
             (place_at self.old.chunks.items spot) id }
         ensures fronts { AreRaised self.old.chunks.items self.new.chunks.items spot.chunk }
         ensures chunks { length self.new.chunks.items ≡ length self.old.chunks.items }
         ensures spares { self.new.spares ≡ self.old.spares }
-        ensures home { length self.new.home.items ≡ length self.old.home.items }
     {
         let chunk = &mut self.chunks[spot.chunk];
         chunk.insert(spot.offset, id);
-        self.home[id] = chunk.key;
         self.count += 1;
     }
 
@@ -83,7 +65,6 @@ impl ChunkList {
         ensures fronts { AreRaised self.new.chunks.items self.old.chunks.items spot.chunk }
         ensures chunks { length self.new.chunks.items ≡ length self.old.chunks.items }
         ensures spares { self.new.spares ≡ self.old.spares }
-        ensures home { self.new.home ≡ self.old.home }
     {
         let chunk = &mut self.chunks[spot.chunk];
         chunk.remove(spot.offset);
@@ -100,12 +81,29 @@ impl ChunkList {
             (length (ids_of (take k self.old.chunks.items))) }
         ensures chunks { length self.new.chunks.items + 1 ≡ length self.old.chunks.items }
         ensures spares { length self.new.spares.items ≡ length self.old.spares.items + 1 }
-        ensures home { self.new.home ≡ self.old.home }
     {
         let mut chunk = self.chunks.remove(k);
         chunk.remove(0);
         push_within(&mut self.spares, chunk);
         self.count -= 1;
+    }
+
+    /// Takes out the ids at these positions, from 1, in one pass. Takes no memory.
+    pub fn remove_each(&mut self, positions: &[u32])
+        requires whole { IsWhole self.old }
+        requires rising { AreRising 1 positions.now }
+        ensures whole { IsWhole self.new }
+        ensures ids { ids_of self.new.chunks.items ≡ without_each (ids_of self.old.chunks.items)
+            positions.now }
+        ensures all { chunk_count self.new ≡ chunk_count self.old }
+        ensures spares { length self.old.spares.items ≤ length self.new.spares.items }
+    {
+        // Brings the range of `count` into the proof, and does nothing at run time.
+        let _within = self.count;
+        let taken = thin_all(&mut self.chunks, positions);
+        let kept = settle_all(&mut self.chunks);
+        pour(&mut self.chunks, &mut self.spares, kept);
+        self.count -= taken as u32;
     }
 
     /// Joins a chunk and the one behind it, which together fit into one.
@@ -122,11 +120,9 @@ impl ChunkList {
             self.old.chunks.items (k + 1) }
         ensures chunks { length self.new.chunks.items + 1 ≡ length self.old.chunks.items }
         ensures spares { length self.new.spares.items ≡ length self.old.spares.items + 1 }
-        ensures home { length self.new.home.items ≡ length self.old.home.items }
     {
         let mut next = self.chunks.remove(k + 1);
         let chunk = &mut self.chunks[k];
-        point(&mut self.home, &next.ids, chunk.key);
         chunk.join(&mut next);
         push_within(&mut self.spares, next);
     }
@@ -148,45 +144,37 @@ impl ChunkList {
         ensures chunks { length self.new.chunks.items ≡ length self.old.chunks.items + 1 }
         ensures count { self.new.count ≡ self.old.count }
         ensures spares { length self.new.spares.items + 1 ≡ length self.old.spares.items }
-        ensures home { length self.new.home.items ≡ length self.old.home.items }
     {
         let mut fresh = take_spare(&mut self.spares);
         let chunk = &mut self.chunks[k];
         chunk.halve(&mut fresh);
-        point(&mut self.home, &fresh.ids, fresh.key);
         insert_within(&mut self.chunks, k + 1, fresh);
     }
 
-    /// Puts an id that is not held behind all others, into a chunk of its own.
+    /// Puts an id behind all others, into a chunk of its own.
     pub fn append_chunk(&mut self, id: usize)
         requires whole { IsWhole self.old }
         requires full { 0 < length self.old.chunks.items →
             256 ≤ size_at self.old.chunks.items (length self.old.chunks.items - 1) }
         requires few { self.old.count < 2 ^ 32 - 1 }
         requires spare { 0 < length self.old.spares.items }
-        requires below { id < length self.old.home.items }
-        requires absent { times id (ids_of self.old.chunks.items) ≡ 0 }
         ensures whole { IsWhole self.new }
         ensures ids { ids_of self.new.chunks.items ≡ ids_of self.old.chunks.items ++ id ∷ [] }
         ensures fronts { AreKept self.old.chunks.items self.new.chunks.items }
         ensures chunks { length self.new.chunks.items ≡ length self.old.chunks.items + 1 }
         ensures spares { length self.new.spares.items + 1 ≡ length self.old.spares.items }
-        ensures home { length self.new.home.items ≡ length self.old.home.items }
     {
         let mut fresh = take_spare(&mut self.spares);
         fresh.insert(0, id);
-        self.home[id] = fresh.key;
         push_within(&mut self.chunks, fresh);
         self.count += 1;
     }
 
-    /// Puts an id that is not held behind all others.
+    /// Puts an id behind all others.
     pub fn append(&mut self, id: usize)
         requires whole { IsWhole self.old }
         requires few { self.old.count < 2 ^ 32 - 1 }
         requires spare { 0 < length self.old.spares.items }
-        requires below { id < length self.old.home.items }
-        requires absent { times id (ids_of self.old.chunks.items) ≡ 0 }
         ensures whole { IsWhole self.new }
         ensures ids { ids_of self.new.chunks.items ≡ insert (ids_of self.old.chunks.items)
             (length (ids_of self.old.chunks.items)) id }
@@ -195,7 +183,6 @@ impl ChunkList {
         ensures chunks { length self.new.chunks.items ≤ length self.old.chunks.items + 1 }
         ensures all { chunk_count self.new ≡ chunk_count self.old }
         ensures spares { length self.old.spares.items ≤ length self.new.spares.items + 1 }
-        ensures home { length self.new.home.items ≡ length self.old.home.items }
     {
         let chunks = self.chunks.len();
         if chunks == 0 {
@@ -241,7 +228,6 @@ impl ChunkList {
         ensures count { self.new.count ≡ self.old.count }
         ensures all { chunk_count self.new ≡ chunk_count self.old }
         ensures spares { length self.old.spares.items ≤ length self.new.spares.items + 1 }
-        ensures home { length self.new.home.items ≡ length self.old.home.items }
     {
         if self.size(spot.chunk) < ROOM {
             return spot;
@@ -291,7 +277,6 @@ impl ChunkList {
             (result.chunk + 1) }
         ensures all { chunk_count self.new ≡ chunk_count self.old }
         ensures spares { length self.old.spares.items ≤ length self.new.spares.items }
-        ensures home { length self.new.home.items ≡ length self.old.home.items }
     {
         if self.is_thin(spot.chunk) {
             self.join(spot.chunk);
@@ -318,55 +303,12 @@ impl ChunkList {
         self.chunks[spot.chunk].ids[spot.offset]
     }
 
-    /// The place of an id, from 0.
-    pub fn place_of(&self, id: usize, probes: &mut u64) -> Option<usize>
-        requires whole { IsWhole self.now }
-        ensures place { MatchOption result (times id (ids_of self.now.chunks.items) ≡ 0)
-            (λ place. slice_get (ids_of self.now.chunks.items) place ≡ Some id) }
-        ensures within { IfSome result (λ place. place < self.now.count) }
-        ensures counted { probes.old ≤ probes.new }
-        ensures few_probes { probes.new ≤ probes.old + (length self.now.chunks.items + 512) }
-    {
-        // Brings the range of `count` into the proof, and does nothing at run time.
-        let _within = self.count;
-        if id >= self.home.len() {
-            return None;
-        }
-        let Some(found) = find_chunk(&self.chunks, self.home[id], probes) else {
-            return None;
-        };
-        let Some(offset) = find_id(&self.chunks[found.chunk].ids, id, probes) else {
-            return None;
-        };
-        Some(found.before + offset)
-    }
-
-    /// Lets ids up to this one be inserted.
-    pub fn grow_home(&mut self, id: usize) -> Result<(), OutOfMemory>
-        requires whole { IsWhole self.old }
-        requires id { id < 2 ^ 64 - 1 }
-        ensures whole { IsWhole self.new }
-        ensures chunks { self.new.chunks ≡ self.old.chunks }
-        ensures spares { self.new.spares ≡ self.old.spares }
-        ensures count { self.new.count ≡ self.old.count }
-        ensures grows { length self.old.home.items ≤ length self.new.home.items }
-        ensures enough { OnOk result (id < length self.new.home.items) }
-        ensures succeeds { id < length self.old.home.items → IsOk result }
-        ensures stays { OnErr result (length self.new.home.items ≡ length self.old.home.items) }
-    {
-        if self.home.len() <= id {
-            self.home.resize(id + 1, 0)?;
-        }
-        Ok(())
-    }
-
     /// Makes room for one chunk more, among those in use and the spare ones.
     pub fn reserve_chunk(&mut self) -> Result<(), OutOfMemory>
         requires whole { IsWhole self.old }
         ensures whole { IsWhole self.new }
         ensures chunks { self.new.chunks.items ≡ self.old.chunks.items }
         ensures spares { self.new.spares.items ≡ self.old.spares.items }
-        ensures home { self.new.home ≡ self.old.home }
         ensures chunk_room { OnOk result
             (length self.old.chunks.items + length self.old.spares.items < vec_capacity
             self.new.chunks) }
@@ -381,10 +323,9 @@ impl ChunkList {
         Ok(())
     }
 
-    /// Makes room for one chunk more where none is spare, and for ids up to this one.
-    pub fn reserve(&mut self, alloc: Global, id: usize) -> Result<(), OutOfMemory>
+    /// Makes room for one chunk more where none is spare.
+    pub fn reserve(&mut self, alloc: Global) -> Result<(), OutOfMemory>
         requires whole { IsWhole self.old }
-        requires id { id < 2 ^ 64 - 1 }
         ensures whole { IsWhole self.new }
         ensures chunks { self.new.chunks.items ≡ self.old.chunks.items }
         ensures spare { OnOk result (0 < length self.new.spares.items) }
@@ -392,70 +333,31 @@ impl ChunkList {
         ensures few_spares { length self.new.spares.items ≤ length self.old.spares.items + 1 }
         ensures no_more { 0 < length self.old.spares.items →
             length self.new.spares.items ≡ length self.old.spares.items }
-        ensures enough { OnOk result (id < length self.new.home.items) }
-        ensures grows { length self.old.home.items ≤ length self.new.home.items }
-        ensures succeeds { 0 < length self.old.spares.items → id < length self.old.home.items →
-            IsOk result }
+        ensures succeeds { 0 < length self.old.spares.items → IsOk result }
         ensures same_spares { OnErr result
             (length self.new.spares.items ≡ length self.old.spares.items) }
-        ensures same_home { OnErr result (length self.new.home.items ≡ length self.old.home.items) }
     {
         if !self.spares.is_empty() {
-            return self.grow_home(id);
+            return Ok(());
         }
-        let fresh = make_chunk(alloc, self.next_key())?;
+        let fresh = make_chunk(alloc)?;
         self.reserve_chunk()?;
-        self.grow_home(id)?;
         push_within(&mut self.spares, fresh);
         Ok(())
-    }
-
-    /// A key that no chunk has, where none is spare.
-    fn next_key(&self) -> u32
-        requires whole { IsWhole self.now }
-        ensures key { result ≡ length self.now.chunks.items }
-    {
-        // Brings the range of `count` into the proof, and does nothing at run time.
-        let _within = self.count;
-        self.chunks.len() as u32
     }
 }
 
 /// An empty chunk.
-fn make_chunk(alloc: Global, key: u32) -> Result<Chunk, OutOfMemory>
-    ensures key { IfOk result (λ chunk. chunk.key ≡ key) }
-    ensures empty { IfOk result IsEmpty }
+fn make_chunk(alloc: Global) -> Result<Chunk, OutOfMemory>
+    ensures { IfOk result IsEmpty }
 {
     Ok(Chunk {
-        key,
         ids: Vec::with_capacity(alloc, ROOM)?,
     })
 }
 
-/// The chunk with a key, and how many ids stand in front of it. Each chunk looked at is a probe.
-pub fn find_chunk(chunks: &[Chunk], key: u32, probes: &mut u64) -> Option<Found>
-    requires { length (ids_of chunks.now) < 2 ^ 64 }
-    ensures found { MatchOption result (count_with_key key chunks.now ≡ 0) (HasKey chunks.now key) }
-    ensures probes { MatchOption result (probes.new ≡ min (probes.old + length chunks.now)
-        (2 ^ 64 - 1)) (λ found. probes.new ≡ min (probes.old + found.chunk + 1) (2 ^ 64 - 1)) }
-    ensures counted { probes.old ≤ probes.new }
-    ensures few_probes { probes.new ≤ probes.old + length chunks.now }
-{
-    // Brings the range of `probes` into the proof, and does nothing at run time.
-    let _within = *probes;
-    let mut before = 0;
-    for (k, chunk) in chunks.iter().enumerate() {
-        *probes = probes.saturating_add(1);
-        if chunk.key == key {
-            return Some(Found { chunk: k, before });
-        }
-        before += chunk.ids.len();
-    }
-    None
-}
-
 /// The last of the spare chunks.
-fn take_spare(spares: &mut Vec<Chunk>) -> Chunk
+pub fn take_spare(spares: &mut Vec<Chunk>) -> Chunk
     requires { 0 < length spares.old.items }
     ensures items { spares.old.items ≡ spares.new.items ++ result ∷ [] }
     ensures capacity { vec_capacity spares.new ≡ vec_capacity spares.old }

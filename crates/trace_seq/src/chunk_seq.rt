@@ -1,21 +1,21 @@
-ghost use Rattle.std.specs.Prelude.{◌≡◌, ◌+◌, ◌/◌, ◌≤◌, [], length};
+ghost use Rattle.std.specs.Prelude.{◌≡◌, ◌+◌, ◌/◌, ◌<◌, ◌≤◌, ◌^◌, ◌-◌, [], length, IsOk, OnOk, OnErr};
+ghost use Rattle.trace_seq.specs.Order.{id_at, with_id, without_id, with_id_moved};
+ghost use Rattle.trace_seq.specs.Without.{without_each, AreRising};
 
 use crate::chunk_list::ChunkList;
 use crate::counted_chunks::CountedChunks;
 use crate::ids::Ids;
 use crate::out_of_memory::OutOfMemory;
-use crate::trace_seq::TraceSeq;
 use std::alloc::Global;
 use std::marker::Model;
 
-/// The ids in chunks of at most 512, for orders of many ids. Two chunks side by side hold more than
-/// 256 ids together.
+/// A list of ids, in chunks of at most 512. Positions count from 1. Two chunks side by side hold
+/// more than 256 ids together.
 ///
 /// For each group of 16 chunks it keeps how many ids stand in front. `get` finds the group, in two
 /// steps where ids were put behind all others alone, else by halves, and then passes over its
-/// chunks: a number of steps that grows with the logarithm of the chunks. What is stated is that
-/// `get` adds at most `chunks() + 1` to its probes, and `place_of`, which passes over whole chunks,
-/// at most `chunks() + 512`. A chunk that a removal empties is kept as a spare one.
+/// chunks: a number of steps that grows with the logarithm of the chunks. A chunk that a removal
+/// empties is kept as a spare one.
 #[derive(Drop)]
 pub struct ChunkSeq {
     chunks: CountedChunks,
@@ -34,7 +34,6 @@ impl Model for ChunkSeq {
       ids = ids_of s.chunks.list.chunks.items;
       chunks = length
           s.chunks.list.chunks.items;
-      bound = length s.chunks.list.home.items;
       spare = length s.chunks.list.spares.items;
     } };
 
@@ -44,19 +43,25 @@ impl Model for ChunkSeq {
 impl ChunkSeq {
     /// No ids.
     pub fn new(alloc: Global) -> ChunkSeq
-        ensures { result ≡ record { ids = []; chunks = 0; bound = 0; spare = 0 } }
+        ensures { result ≡ record { ids = []; chunks = 0; spare = 0 } }
     {
         ChunkSeq {
             chunks: CountedChunks {
                 list: ChunkList {
                     chunks: Vec::new(alloc),
                     spares: Vec::new(alloc),
-                    home: Vec::new(alloc),
                     count: 0,
                 },
                 fronts: Vec::new(alloc),
             },
         }
+    }
+
+    /// How many ids there are.
+    pub fn len(&self) -> u32
+        ensures length { result ≡ length self.now.ids }
+    {
+        self.chunks.list.count
     }
 
     /// In how many chunks the ids are: at most one, and one more for each 128 ids.
@@ -73,60 +78,73 @@ impl ChunkSeq {
     {
         Ids::new(&self.chunks.list.chunks)
     }
-}
 
-impl TraceSeq for ChunkSeq {
-    ghost use Rattle.std.specs.Prelude.{◌+◌};
-
-    ghost ids = { λ s. s.ids };
-
-    ghost bound = { λ s. s.bound };
-
-    ghost spare = { λ s. s.spare };
-
-    ghost get_probes = { λ s. s.chunks + 1 };
-
-    ghost place_probes = { λ s. s.chunks + 512 };
-
-    fn len(&self) -> u32 {
-        self.chunks.list.count
-    }
-
-    fn bound(&self) -> usize {
-        self.chunks.list.home.len()
-    }
-
-    fn spare(&self) -> usize {
-        self.chunks.list.spares.len()
-    }
-
-    fn get(&self, p: u32, probes: &mut u64) -> Option<usize> {
+    /// The id at position p; `None` where there is none.
+    pub fn get(&self, p: u32) -> Option<usize>
+        ensures id { result ≡ id_at self.now.ids p }
+    {
         if p == 0 || p > self.chunks.list.count {
             return None;
         }
-        Some(self.chunks.get(p as usize - 1, probes))
+        Some(self.chunks.get(p as usize - 1))
     }
 
-    fn place_of(&self, id: usize, probes: &mut u64) -> Option<u32> {
-        // Brings the range of `count` into the proof, and does nothing at run time.
-        let _within = self.chunks.list.count;
-        let place = self.chunks.list.place_of(id, probes)?;
-        Some(place as u32 + 1)
+    /// Makes room for one insert or move. Where that is refused nothing changes; where it is there
+    /// already it takes no memory.
+    pub fn reserve_one(&mut self, alloc: Global) -> Result<(), OutOfMemory>
+        ensures ids { self.new.ids ≡ self.old.ids }
+        ensures spare { OnOk result (1 ≤ self.new.spare) }
+        ensures spare_stays { self.old.spare ≤ self.new.spare }
+        ensures succeeds { 1 ≤ self.old.spare → IsOk result }
+        ensures same_spare { OnErr result (self.new.spare ≡ self.old.spare) }
+    {
+        self.chunks.reserve(alloc)
     }
 
-    fn reserve_one(&mut self, alloc: Global, id: usize) -> Result<(), OutOfMemory> {
-        self.chunks.reserve(alloc, id)
-    }
-
-    fn insert(&mut self, p: u32, id: usize) {
+    /// Puts an id at position p, from 1 to `len() + 1`. Takes no memory.
+    pub fn insert(&mut self, p: u32, id: usize)
+        requires first { 1 ≤ p }
+        requires last { p ≤ length self.old.ids + 1 }
+        requires few { length self.old.ids < 2 ^ 32 - 1 }
+        requires spare { 1 ≤ self.old.spare }
+        ensures ids { self.new.ids ≡ with_id self.old.ids p id }
+        ensures spare { self.old.spare ≤ self.new.spare + 1 }
+    {
         self.chunks.insert(p as usize - 1, id);
     }
 
-    fn remove(&mut self, p: u32) {
+    /// Takes out the id at position p, from 1 to `len()`. Takes no memory.
+    pub fn remove(&mut self, p: u32)
+        requires first { 1 ≤ p }
+        requires last { p ≤ length self.old.ids }
+        ensures ids { self.new.ids ≡ without_id self.old.ids p }
+        ensures spare { self.old.spare ≤ self.new.spare }
+    {
         self.chunks.remove(p as usize - 1);
     }
 
-    fn move_to(&mut self, a: u32, b: u32) {
+    /// Takes out the ids at these positions, which count from 1 and rise; where the list has no
+    /// such position there is nothing to take out. The others stay in their order. Goes over the
+    /// ids once, and takes no memory.
+    pub fn remove_each(&mut self, positions: &[u32])
+        requires rising { AreRising 1 positions.now }
+        ensures ids { self.new.ids ≡ without_each self.old.ids positions.now }
+        ensures spare { self.old.spare ≤ self.new.spare }
+    {
+        self.chunks.remove_each(positions);
+    }
+
+    /// Takes out the id at position a, and puts it at position b of what is left; both from 1 to
+    /// `len()`. Takes no memory.
+    pub fn move_to(&mut self, a: u32, b: u32)
+        requires from_first { 1 ≤ a }
+        requires from_last { a ≤ length self.old.ids }
+        requires to_first { 1 ≤ b }
+        requires to_last { b ≤ length self.old.ids }
+        requires spare { 1 ≤ self.old.spare }
+        ensures ids { self.new.ids ≡ with_id_moved self.old.ids a b }
+        ensures spare { self.old.spare ≤ self.new.spare + 1 }
+    {
         self.chunks.move_to(a as usize - 1, b as usize - 1);
     }
 }

@@ -1,9 +1,9 @@
 ghost use Rattle.std.specs.Prelude.{◌≡◌, ◌+◌, ◌-◌, ◌<◌, ◌≤◌, ◌^◌, length, slice_get, slice_index, Some, IsOk, OnOk, OnErr};
 ghost use Rattle.std.specs.List.{insert, remove};
 ghost use Rattle.std.specs.Vec.{vec_capacity};
-ghost use Rattle.trace_seq.specs.Order.{times};
 ghost use Rattle.trace_seq.specs.Chunks.{ids_of, place_at, size_at, chunk_count, IsWhole};
 ghost use Rattle.trace_seq.specs.Fronts.{IsCounted};
+ghost use Rattle.trace_seq.specs.Without.{without_each, AreRising};
 
 use crate::chunk::{ROOM, Spot};
 use crate::chunk_list::ChunkList;
@@ -38,38 +38,27 @@ impl CountedChunks {
     }
 
     /// Where the id at a place stands, from 0.
-    fn find(&self, place: usize, probes: &mut u64) -> Spot
+    fn find(&self, place: usize) -> Spot
         requires counted { IsCounted self.now }
         requires place { place < length (ids_of self.now.list.chunks.items) }
         ensures place { place_at self.now.list.chunks.items result ≡ place }
         ensures offset { result.offset < size_at self.now.list.chunks.items result.chunk }
         ensures chunk { result.chunk < length self.now.list.chunks.items }
-        ensures counted { probes.old ≤ probes.new }
-        ensures few_probes { probes.new ≤ probes.old + length self.now.list.chunks.items }
     {
-        let group = find_group(&self.fronts, place, probes);
-        locate(
-            &self.list.chunks,
-            GROUP * group.number,
-            group.first,
-            place,
-            probes,
-        )
+        let group = find_group(&self.fronts, place);
+        locate(&self.list.chunks, GROUP * group.number, group.first, place)
     }
 
-    /// Puts an id that is not held at a place, from 0, of which the last is behind all others.
+    /// Puts an id at a place, from 0, of which the last is behind all others.
     pub fn insert(&mut self, place: usize, id: usize)
         requires counted { IsCounted self.old }
         requires place { place ≤ length (ids_of self.old.list.chunks.items) }
         requires few { self.old.list.count < 2 ^ 32 - 1 }
         requires spare { 0 < length self.old.list.spares.items }
-        requires below { id < length self.old.list.home.items }
-        requires absent { times id (ids_of self.old.list.chunks.items) ≡ 0 }
         ensures counted { IsCounted self.new }
         ensures ids { ids_of self.new.list.chunks.items ≡ insert
             (ids_of self.old.list.chunks.items) place id }
         ensures spares { length self.old.list.spares.items ≤ length self.new.list.spares.items + 1 }
-        ensures home { length self.new.list.home.items ≡ length self.old.list.home.items }
     {
         if place == self.list.count as usize {
             self.append(id);
@@ -78,18 +67,15 @@ impl CountedChunks {
         }
     }
 
-    /// Puts an id that is not held behind all others.
+    /// Puts an id behind all others.
     fn append(&mut self, id: usize)
         requires counted { IsCounted self.old }
         requires few { self.old.list.count < 2 ^ 32 - 1 }
         requires spare { 0 < length self.old.list.spares.items }
-        requires below { id < length self.old.list.home.items }
-        requires absent { times id (ids_of self.old.list.chunks.items) ≡ 0 }
         ensures counted { IsCounted self.new }
         ensures ids { ids_of self.new.list.chunks.items ≡ insert
             (ids_of self.old.list.chunks.items) (length (ids_of self.old.list.chunks.items)) id }
         ensures spares { length self.old.list.spares.items ≤ length self.new.list.spares.items + 1 }
-        ensures home { length self.new.list.home.items ≡ length self.old.list.home.items }
     {
         let front = self.list.count as usize;
         self.list.append(id);
@@ -98,22 +84,18 @@ impl CountedChunks {
         }
     }
 
-    /// Puts an id that is not held at a place in front of another, from 0.
+    /// Puts an id at a place in front of another, from 0.
     fn insert_before(&mut self, place: usize, id: usize)
         requires counted { IsCounted self.old }
         requires place { place < length (ids_of self.old.list.chunks.items) }
         requires few { self.old.list.count < 2 ^ 32 - 1 }
         requires spare { 0 < length self.old.list.spares.items }
-        requires below { id < length self.old.list.home.items }
-        requires absent { times id (ids_of self.old.list.chunks.items) ≡ 0 }
         ensures counted { IsCounted self.new }
         ensures ids { ids_of self.new.list.chunks.items ≡ insert
             (ids_of self.old.list.chunks.items) place id }
         ensures spares { length self.old.list.spares.items ≤ length self.new.list.spares.items + 1 }
-        ensures home { length self.new.list.home.items ≡ length self.old.list.home.items }
     {
-        let mut uncounted = 0;
-        let spot = self.find(place, &mut uncounted);
+        let spot = self.find(place);
         if self.list.size(spot.chunk) < ROOM {
             self.put(spot, id);
             return;
@@ -123,20 +105,17 @@ impl CountedChunks {
         self.recount();
     }
 
-    /// Puts an id that is not held at a spot of a chunk that is not full.
+    /// Puts an id at a spot of a chunk that is not full.
     fn put(&mut self, spot: Spot, id: usize)
         requires counted { IsCounted self.old }
         requires chunk { spot.chunk < length self.old.list.chunks.items }
         requires offset { spot.offset ≤ size_at self.old.list.chunks.items spot.chunk }
         requires room { size_at self.old.list.chunks.items spot.chunk < 512 }
         requires few { self.old.list.count < 2 ^ 32 - 1 }
-        requires below { id < length self.old.list.home.items }
-        requires absent { times id (ids_of self.old.list.chunks.items) ≡ 0 }
         ensures counted { IsCounted self.new }
         ensures ids { ids_of self.new.list.chunks.items ≡ insert
             (ids_of self.old.list.chunks.items) (place_at self.old.list.chunks.items spot) id }
         ensures spares { self.new.list.spares ≡ self.old.list.spares }
-        ensures home { length self.new.list.home.items ≡ length self.old.list.home.items }
     {
         self.list.put(spot, id);
         raise(&mut self.fronts, spot.chunk / GROUP + 1);
@@ -150,10 +129,8 @@ impl CountedChunks {
         ensures ids { ids_of self.new.list.chunks.items ≡ remove
             (ids_of self.old.list.chunks.items) place }
         ensures spares { length self.old.list.spares.items ≤ length self.new.list.spares.items }
-        ensures home { length self.new.list.home.items ≡ length self.old.list.home.items }
     {
-        let mut uncounted = 0;
-        let spot = self.find(place, &mut uncounted);
+        let spot = self.find(place);
         if self.list.size(spot.chunk) == 1 {
             self.list.drop_chunk(spot.chunk);
             self.recount();
@@ -166,6 +143,19 @@ impl CountedChunks {
             return;
         }
         self.take_id(spot);
+    }
+
+    /// Takes out the ids at these positions, from 1, in one pass. Takes no memory.
+    pub fn remove_each(&mut self, positions: &[u32])
+        requires counted { IsCounted self.old }
+        requires rising { AreRising 1 positions.now }
+        ensures counted { IsCounted self.new }
+        ensures ids { ids_of self.new.list.chunks.items ≡ without_each
+            (ids_of self.old.list.chunks.items) positions.now }
+        ensures spares { length self.old.list.spares.items ≤ length self.new.list.spares.items }
+    {
+        self.list.remove_each(positions);
+        self.recount();
     }
 
     /// Takes out the id at a spot of a chunk that holds another id, and that stays thick enough
@@ -185,7 +175,6 @@ impl CountedChunks {
         ensures ids { ids_of self.new.list.chunks.items ≡ remove
             (ids_of self.old.list.chunks.items) (place_at self.old.list.chunks.items spot) }
         ensures spares { self.new.list.spares ≡ self.old.list.spares }
-        ensures home { self.new.list.home ≡ self.old.list.home }
     {
         self.list.take_id(spot);
         lower(&mut self.fronts, spot.chunk / GROUP + 1);
@@ -202,50 +191,39 @@ impl CountedChunks {
             (remove (ids_of self.old.list.chunks.items) from) to
             (slice_index (ids_of self.old.list.chunks.items) from) }
         ensures spares { length self.old.list.spares.items ≤ length self.new.list.spares.items + 1 }
-        ensures home { length self.new.list.home.items ≡ length self.old.list.home.items }
     {
         // Brings the range of the count into the proof, and does nothing at run time.
         let _within = self.list.count;
-        let mut uncounted = 0;
-        let id = self.get(from, &mut uncounted);
+        let id = self.get(from);
         self.remove(from);
         self.insert(to, id);
     }
 
     /// The id at a place, from 0.
-    pub fn get(&self, place: usize, probes: &mut u64) -> usize
+    pub fn get(&self, place: usize) -> usize
         requires counted { IsCounted self.now }
         requires place { place < length (ids_of self.now.list.chunks.items) }
         ensures id { slice_get (ids_of self.now.list.chunks.items) place ≡ Some result }
-        ensures counted { probes.old ≤ probes.new }
-        ensures few_probes { probes.new ≤ probes.old + (length self.now.list.chunks.items + 1) }
     {
-        let spot = self.find(place, probes);
-        *probes = probes.saturating_add(1);
+        let spot = self.find(place);
         self.list.id_at(spot)
     }
 
-    /// Makes room for one chunk more where none is spare, and for ids up to this one.
-    pub fn reserve(&mut self, alloc: Global, id: usize) -> Result<(), OutOfMemory>
+    /// Makes room for one chunk more where none is spare.
+    pub fn reserve(&mut self, alloc: Global) -> Result<(), OutOfMemory>
         requires counted { IsCounted self.old }
-        requires id { id < 2 ^ 64 - 1 }
         ensures counted { IsCounted self.new }
         ensures chunks { self.new.list.chunks.items ≡ self.old.list.chunks.items }
         ensures spare { OnOk result (0 < length self.new.list.spares.items) }
         ensures spares { length self.old.list.spares.items ≤ length self.new.list.spares.items }
-        ensures enough { OnOk result (id < length self.new.list.home.items) }
-        ensures grows { length self.old.list.home.items ≤ length self.new.list.home.items }
-        ensures succeeds { 0 < length self.old.list.spares.items →
-            id < length self.old.list.home.items → IsOk result }
+        ensures succeeds { 0 < length self.old.list.spares.items → IsOk result }
         ensures same_spares { OnErr result
             (length self.new.list.spares.items ≡ length self.old.list.spares.items) }
-        ensures same_home { OnErr result
-            (length self.new.list.home.items ≡ length self.old.list.home.items) }
     {
         if self.list.spares.is_empty() {
             let chunks = self.list.chunks.len();
             self.fronts.reserve(chunks + 1)?;
         }
-        self.list.reserve(alloc, id)
+        self.list.reserve(alloc)
     }
 }

@@ -22,25 +22,20 @@ pub struct Group {
 }
 
 /// The last group that starts at the place or in front of it: first where it is if each has as many
-/// ids as usual, then by halves. Each number looked at is a probe.
-pub fn find_group(fronts: &[usize], place: usize, probes: &mut u64) -> Group
+/// ids as usual, then by halves.
+pub fn find_group(fronts: &[usize], place: usize) -> Group
     ensures before { result.first ≤ place }
     ensures behind { result.number + 1 < length fronts.now →
         place < slice_index fronts.now (result.number + 1) }
     ensures told { 0 < result.number → slice_index fronts.now result.number ≡ result.first }
     ensures within { 0 < result.number → result.number < length fronts.now }
     ensures start { result.number ≡ 0 → result.first ≡ 0 }
-    ensures counted { probes.old ≤ probes.new }
-    ensures few_probes { probes.new ≤ probes.old + (length fronts.now - 1) }
 {
-    // Brings the range of `probes` into the proof, and does nothing at run time.
-    let _within = *probes;
     let likely = place / GROUP_IDS;
     let mut number = 0;
     let mut end = fronts.len();
     'halves: while number + 1 < end {
-        *probes = probes.saturating_add(1);
-        let middle = next_probe(likely, number, end);
+        let middle = next_number(likely, number, end);
         // With no branch, since none could be foretold.
         let is_before = fronts[middle] <= place;
         number = if is_before { middle } else { number };
@@ -52,7 +47,7 @@ pub fn find_group(fronts: &[usize], place: usize, probes: &mut u64) -> Group
 
 // The number to look at next, between two others: the one behind the likely group, then that of the
 // likely group, where they lie between these; else the one halfway.
-fn next_probe(likely: usize, number: usize, end: usize) -> usize
+fn next_number(likely: usize, number: usize, end: usize) -> usize
     requires { number + 1 < end }
     ensures above { number < result }
     ensures below { result < end }
@@ -67,24 +62,17 @@ fn next_probe(likely: usize, number: usize, end: usize) -> usize
     number + (end - number) / 2
 }
 
-/// Where the id at a place stands, from a chunk on that has so many ids in front of it. Each chunk
-/// looked at is a probe.
-pub fn locate(chunks: &[Chunk], from: usize, first: usize, place: usize, probes: &mut u64) -> Spot
+/// Where the id at a place stands, from a chunk on that has so many ids in front of it.
+pub fn locate(chunks: &[Chunk], from: usize, first: usize, place: usize) -> Spot
     requires first { front chunks.now from ≡ first }
     requires before { first ≤ place }
     requires place { place < length (ids_of chunks.now) }
     ensures place { place_at chunks.now result ≡ place }
     ensures offset { result.offset < size_at chunks.now result.chunk }
     ensures chunk { result.chunk < length chunks.now }
-    ensures from { from ≤ result.chunk }
-    ensures counted { probes.old ≤ probes.new }
-    ensures probes { probes.new ≡ min (probes.old + (result.chunk + 1 - from)) (2 ^ 64 - 1) }
 {
-    // Brings the range of `probes` into the proof, and does nothing at run time.
-    let _within = *probes;
     let mut left = place - first;
     for k in from..chunks.len() {
-        *probes = probes.saturating_add(1);
         let size = chunks[k].ids.len();
         if left < size {
             return Spot {

@@ -1,6 +1,6 @@
 -- Traces whose bytes are at hand: that they are, and what they show then.
 use Rattle.std.proofs.Common.{◌≡◌, ℕ, ◌+◌, ◌-◌, ◌<◌, ◌≤◌, List, [], ◌∷◌, length, get_or, refl, sym, ap, ◌∙◌, subst, arith, Option, Some, None, Bool, Bor, inl, inr}
-use Rattle.std.specs.Prelude.{◌⊎◌, IsSomeAnd, option_and_then, option_copied, option_map, unwrap_or, slice_get, slice_index_or, IfSome, ◌==◌, if◌then◌else◌}
+use Rattle.std.specs.Prelude.{◌⊎◌, IsSomeAnd, option_and_then, option_copied, unwrap_or, slice_get, slice_index_or, IfSome, ◌==◌, if◌then◌else◌}
 use Rattle.std.proofs.lemmas.Bool.{cases_lt, le-ltb, lt-ltb}
 use Rattle.std.proofs.lemmas.Bool.Decides.{eqb_tells, nat_tests}
 use Rattle.std.proofs.lemmas.List.{length-map}

@@ -11,3 +11,5 @@ pub mod PayloadLemmas
 pub mod SlotLemmas
 pub mod SwapLemmas
 pub mod WindowLemmas
+pub mod OutLemmas
+pub mod GoneLemmas

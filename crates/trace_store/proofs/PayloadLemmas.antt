@@ -14,6 +14,9 @@ use Rattle.trace_store.specs.declared.slot.Slot.{Slot}
 use Rattle.trace_store.specs.Slots.{AreHeld, IsSlot}
 use Rattle.trace_store.specs.Moved.{put_back}
 use Rattle.trace_store.specs.Stores.{somes, payload_under, payloads_moved}
+use Rattle.trace_seq.specs.Without.{without_each}
+use Rattle.trace_seq.proofs.ThinLemmas.{map-without}
+use Rattle.trace_store.proofs.OutLemmas.{map-held}
 use Rattle.trace_store.proofs.OrderLemmas.{place-of, held-at_place, map-alike, map-others, map-changed, map-insert, map-remove}
 
 module _ {T : Type 0} where
@@ -108,6 +111,13 @@ module _ {T : Type 0} (file : HeldBytes) (h : Head) (ids : List ℕ) (slots : Sl
       let raw : map (payload_under new) (remove ids i) ≡ remove (map (payload_under slots) ids) i =
       map-others (payload_under new) (payload_under slots) key (remove ids i) absent (λ k ne. ap (option_map (λ (x : Slot T). x.payload)) (up.others k ne)) ∙ map-remove (payload_under slots) ids i in
       ap (λ (os : List (Option T)). somes os) (raw ∙ (ap (λ (os : List (Option T)). remove os i) all-there ∙ remove-all ps i)) ∙ somes-all (remove ps i)
+
+  -- many ids go
+  pub payloads-without : (new : Slab (Slot T)) (positions : List ℕ) → ((id : ℕ) → 0 < times id (without_each ids positions) → get new id ≡ get slots id) → somes (map (payload_under new) (without_each ids positions)) ≡ without_each ps positions
+  payloads-without new positions stay =
+      let raw : map (payload_under new) (without_each ids positions) ≡ without_each (map (payload_under slots) ids) positions =
+      map-held (payload_under new) (payload_under slots) (without_each ids positions) (λ k there. ap (option_map (λ (x : Slot T). x.payload)) (stay k there)) ∙ map-without (payload_under slots) 1 ids positions in
+      ap (λ (os : List (Option T)). somes os) (raw ∙ (ap (λ (os : List (Option T)). without_each os positions) all-there ∙ sym (map-without some 1 ps positions))) ∙ somes-all (without_each ps positions)
 
   -- an id moves
   pub payloads-moved : (a b : ℕ) → a - 1 < length ids → somes (map (payload_under slots) (with_id_moved ids a b)) ≡ payloads_moved ps a b

@@ -22,6 +22,7 @@
 
 mod base;
 mod column;
+mod deleting;
 mod layers;
 mod out_of_memory;
 mod parts;

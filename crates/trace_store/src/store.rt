@@ -25,7 +25,7 @@ use frame_cut::{Extent, Head, LoadFault};
 use slab::Slab;
 use std::alloc::Global;
 use std::mem;
-use trace_seq::{ChunkSeq, TraceSeq};
+use trace_seq::ChunkSeq;
 use trace_view::{Run, TraceView};
 
 /// The loaded bytes, which never change, and the traces that lie over them. Traces count from 1.
@@ -152,8 +152,7 @@ impl<T: Copy> TraceStore<T> {
         requires last { p ≤ length (traces_of self.now) }
         ensures { id_at self.now.order.ids p ≡ Some result }
     {
-        let mut probes = 0;
-        match self.order.get(p, &mut probes) {
+        match self.order.get(p) {
             Some(id) => id,
             None => unreachable!(),
         }
@@ -472,7 +471,7 @@ impl<T: Copy> TraceStore<T> {
         ensures carried { IfOk result (λ prepared. payloads_then (payloads_of self.new) prepared
             ≡ payloads_moved (payloads_of self.old) a b) }
     {
-        self.order.reserve_one(alloc, 0)?;
+        self.order.reserve_one(alloc)?;
         Ok(Prepared::Move(TraceMove { from: a, to: b }))
     }
 
@@ -672,9 +671,7 @@ impl<T: Copy> TraceStore<T> {
         let layers = Layers::over(alloc, base)?;
         self.slots.reserve(1)?;
         let id = self.slots.insert_reserved(Slot { layers, payload });
-        // The id is below the capacity, which is a usize.
-        let _capacity = self.slots.capacity();
-        if self.order.reserve_one(alloc, id).is_err() {
+        if self.order.reserve_one(alloc).is_err() {
             let _ = self.slots.remove(id);
             return Err(OutOfMemory);
         }

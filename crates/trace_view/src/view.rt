@@ -36,7 +36,7 @@ impl<'a> TraceView<'a> {
     ghost use Rattle.frame_cut.specs.Frames.{extensions_of, sample_count as sample_count_of, trace_length as trace_length_of};
     ghost use Rattle.frame_cut.specs.Splice.{splice};
     ghost use Rattle.trace_view.specs.Runs.{Fit, bytes_with_runs, is_plain};
-    ghost use Rattle.trace_view.specs.Values.{main_header, extension as extension_of, sample_bytes as sample_bytes_of, samples_at as samples_at_of, value_of, sample_of, samples_of};
+    ghost use Rattle.trace_view.specs.Values.{main_header, extension as extension_of, sample_bytes, samples_at as samples_at_of, value_of, sample_of, samples_of};
     ghost use Rattle.trace_view.specs.Shown.{bytes_of, head_of, runs_of};
 
     /// The trace with these base bytes and these runs over them: rising, disjoint, inside, none of
@@ -170,13 +170,6 @@ impl<'a> TraceView<'a> {
         Some(Part::new(self.bytes, from, from + TRACE_HEADER_BYTES))
     }
 
-    /// The bytes behind the headers. Takes no memory.
-    pub fn sample_bytes(&self) -> Part<'a>
-        ensures { result ≡ sample_bytes_of (head_of self.now) (bytes_of self.now) }
-    {
-        Part::new(self.bytes, self.samples_at(), self.bytes.length())
-    }
-
     /// The bytes from..to as one slice, counted from 0, where no run touches them, else None. Takes
     /// no memory.
     pub fn plain(&self, from: u64, to: u64) -> Option<&'a [u8]>
@@ -193,7 +186,7 @@ impl<'a> TraceView<'a> {
         ensures some { IsSome result ↔
             IsTrue (is_plain (runs_of self.now)
             (samples_at_of (head_of self.now) (bytes_of self.now)) (length (bytes_of self.now))) }
-        ensures bytes { IfSome result (λ s. s.now ≡ sample_bytes_of (head_of self.now)
+        ensures bytes { IfSome result (λ s. s.now ≡ sample_bytes (head_of self.now)
             (bytes_of self.now)) }
     {
         self.bytes.plain(self.samples_at(), self.bytes.length())

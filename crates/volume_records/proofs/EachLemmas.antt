@@ -8,6 +8,7 @@ use Rattle.std.proofs.lemmas.List.Elements.{recursion_from_All}
 use Rattle.field_map.specs.Pairs.{Pairs}
 use Rattle.frame_cut.specs.declared.file_head.Head.{Head}
 use Rattle.frame_cut.specs.Cuts.{IsTrace}
+use Rattle.frame_cut.specs.Frames.{extensions_of}
 use Rattle.frame_cut.specs.Parts.{put_each_at, with_each}
 use Rattle.frame_cut.specs.Splice.{splice}
 use Rattle.frame_cut.specs.Traces.{count_of}
@@ -19,7 +20,7 @@ use Rattle.trace_record.specs.OfTrace.{record_of}
 use Rattle.trace_record.specs.declared.record.Record.{Record}
 use Rattle.live_reports.specs.Exchanged.{with_records}
 use Rattle.volume_records.specs.OfVolume.{records_of, headers_of, AreHeaderParts}
-use Rattle.volume_records.proofs.HeaderLemmas.{record-header}
+use Rattle.volume_records.proofs.HeaderLemmas.{record-kept}
 
 -- ---- the traces that stay, and those that are changed
 
@@ -60,20 +61,22 @@ headers-same : (h : Head) (fields : Pairs) (ts : List (List ℕ)) → headers_ov
 headers-same h fields [] = refl
 headers-same h fields (t ∷ ts) = ap (λ (fs : List Facts). record_of h fields t ∷ fs) (headers-same h fields ts)
 
--- traces over whose headers at most 8 bytes are laid have the samples that they had
-headers-put_each : (h : Head) (fields : Pairs) (ts : List (List ℕ)) (p at size count : ℕ) (bytes : List ℕ) → 0 < size → size ≤ 8 → length bytes ≡ count * size → AllByRecursion (IsTrace h) ts
+-- traces over whose headers bytes are laid, which leave them as many header extensions, have the samples that they had
+headers-put_each : (h : Head) (fields : Pairs) (ts : List (List ℕ)) (p at size count : ℕ) (bytes : List ℕ) → 0 < size → length bytes ≡ count * size → AllByRecursion (IsTrace h) ts
     → ((k i : ℕ) → k < count → i ≡ p + k → i < length ts → at + size ≤ samples_at h (get_or ts i []))
     → ((k i j : ℕ) → k < count → i ≡ p + k → j ≡ k * size → i < length ts → IsTrace h (splice (get_or ts i []) at size (take size (drop j bytes))))
+    → ((k i j : ℕ) → k < count → i ≡ p + k → j ≡ k * size → i < length ts → extensions_of h (splice (get_or ts i []) at size (take size (drop j bytes))) ≡ extensions_of h (get_or ts i []))
     → headers_over h fields (put_each_at ts p at size bytes) (map (record_of h fields) ts) ≡ map (record_of h fields) (put_each_at ts p at size bytes)
-headers-put_each h fields [] p at size count bytes some small long all front whole = refl
-headers-put_each h fields (t ∷ ts) (suc p) at size count bytes some small long all front whole =
+headers-put_each h fields [] p at size count bytes some long all front whole kept = refl
+headers-put_each h fields (t ∷ ts) (suc p) at size count bytes some long all front whole kept =
     ap (λ (fs : List Facts). record_of h fields t ∷ fs)
-    (headers-put_each h fields ts p at size count bytes some small long all.1
+    (headers-put_each h fields ts p at size count bytes some long all.1
     (λ k i less e inside. front k (suc i) less (omega arith) (omega arith))
-    (λ k i j less e f inside. whole k (suc i) j less (omega arith) f (omega arith)))
-headers-put_each h fields (t ∷ ts) zero at size count [] some small long all front whole = headers-same h fields (t ∷ ts)
-headers-put_each h fields (t ∷ ts) zero at size zero (b ∷ bs) some small long all front whole = absurd (omega arith)
-headers-put_each h fields (t ∷ ts) zero at size (suc count) (b ∷ bs) some small long all front whole =
+    (λ k i j less e f inside. whole k (suc i) j less (omega arith) f (omega arith))
+    (λ k i j less e f inside. kept k (suc i) j less (omega arith) f (omega arith)))
+headers-put_each h fields (t ∷ ts) zero at size count [] some long all front whole kept = headers-same h fields (t ∷ ts)
+headers-put_each h fields (t ∷ ts) zero at size zero (b ∷ bs) some long all front whole kept = absurd (omega arith)
+headers-put_each h fields (t ∷ ts) zero at size (suc count) (b ∷ bs) some long all front whole kept =
     let bytes : List ℕ = b ∷ bs in
     let new : List ℕ = take size bytes in
     let u : List ℕ = splice t at size new in
@@ -81,13 +84,17 @@ headers-put_each h fields (t ∷ ts) zero at size (suc count) (b ∷ bs) some sm
     let inside : at + size ≤ samples_at h t = front 0 0 (omega arith) (omega arith) (omega arith) in
     let is : u ≡ splice t at (length new) new = ap (λ n. splice t at n new) (sym full) in
     let here : with_samples_of (record_of h fields u) (record_of h fields t) ≡ record_of h fields u =
-    record-header h fields t u new at all.0 (whole 0 0 0 (omega arith) (omega arith) (omega arith) (omega arith)) is (omega (arith, full, small)) (omega (arith, full, inside)) in
+    record-kept h fields t u new at all.0 (whole 0 0 0 (omega arith) (omega arith) (omega arith) (omega arith)) is (omega (arith, full, inside))
+    (kept 0 0 0 (omega arith) (omega arith) (omega arith) (omega arith)) in
     ap₂ (λ (f : Facts) (fs : List Facts). f ∷ fs) here
-    (headers-put_each h fields ts zero at size count (drop size bytes) some small (parts-left bytes size count long) all.1
+    (headers-put_each h fields ts zero at size count (drop size bytes) some (parts-left bytes size count long) all.1
     (λ k i less e within. front (suc k) (suc i) (omega arith) (omega arith) (omega arith))
     (λ k i j less e f within.
     subst (λ (l : List ℕ). IsTrace h (splice (get_or ts i []) at size (take size l))) (sym (drop-drop j size bytes))
-    (whole (suc k) (suc i) (size + j) (omega arith) (omega arith) (omega arith) (omega arith))))
+    (whole (suc k) (suc i) (size + j) (omega arith) (omega arith) (omega arith) (omega arith)))
+    (λ k i j less e f within.
+    subst (λ (l : List ℕ). extensions_of h (splice (get_or ts i []) at size (take size l)) ≡ extensions_of h (get_or ts i [])) (sym (drop-drop j size bytes))
+    (kept (suc k) (suc i) (size + j) (omega arith) (omega arith) (omega arith) (omega arith))))
 
 -- ---- the numbers of samples
 
@@ -134,10 +141,12 @@ module _ (v : Volume) (fields : Pairs) (a at size : ℕ) (bytes : List ℕ) (rs 
   -- each trace has the samples that it had
   headers-with_each : headers_of (with_each v a at size bytes) fields (records_of v fields) ≡ records_of (with_each v a at size bytes) fields
   headers-with_each =
-      headers-put_each v.head fields v.traces (a - 1) at size count bytes parts.some parts.small whole_parts (recursion_from_All (IsTrace v.head) v.traces parts.traces)
+      headers-put_each v.head fields v.traces (a - 1) at size count bytes parts.some whole_parts (recursion_from_All (IsTrace v.head) v.traces parts.traces)
       (λ k i less e inside. subst (λ q. at + size ≤ samples_at v.head (get_or v.traces q [])) (sym e) (parts.front k less))
       (λ k i j less e f inside. subst (λ q. IsTrace v.head (splice (get_or v.traces i []) at size (take size (drop q bytes)))) (sym f)
       (subst (λ q. IsTrace v.head (splice (get_or v.traces q []) at size (part_of bytes size k))) (sym e) (parts.whole k less)))
+      (λ k i j less e f inside. subst (λ q. extensions_of v.head (splice (get_or v.traces i []) at size (take size (drop q bytes))) ≡ extensions_of v.head (get_or v.traces i [])) (sym f)
+      (subst (λ q. extensions_of v.head (splice (get_or v.traces q []) at size (part_of bytes size k)) ≡ extensions_of v.head (get_or v.traces q [])) (sym e) (parts.kept k less)))
 
   headers : headers_of (with_each v a at size bytes) fields (map facts_of rs) ≡ records_of (with_each v a at size bytes) fields
   headers = ap (λ (fs : List Facts). headers_of (with_each v a at size bytes) fields fs) e ∙ headers-with_each

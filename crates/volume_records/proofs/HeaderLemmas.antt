@@ -104,3 +104,10 @@ record-same_samples h fields t u s = ap₂ (with_amplitudes (record_of h fields 
 pub record-header : (h : Head) (fields : Pairs) (t u new : List ℕ) (at : ℕ) → IsTrace h t → IsTrace h u → u ≡ splice t at (length new) new → length new ≤ 8 → at + length new ≤ samples_at h t
     → with_samples_of (record_of h fields u) (record_of h fields t) ≡ record_of h fields u
 record-header h fields t u new at is whole e few front = record-same_samples h fields t u (SameSamples-header h t u new at is whole e few front)
+
+-- and after any bytes over the headers that leave the trace whole, with as many header extensions
+pub record-kept : (h : Head) (fields : Pairs) (t u new : List ℕ) (at : ℕ) → IsTrace h t → IsTrace h u → u ≡ splice t at (length new) new → at + length new ≤ samples_at h t → extensions_of h u ≡ extensions_of h t
+    → with_samples_of (record_of h fields u) (record_of h fields t) ≡ record_of h fields u
+record-kept h fields t u new at is whole e front kept =
+    let spliced : IsTrace h (splice t at (length new) new) = subst (λ (s : List ℕ). IsTrace h s) e whole in
+    record-same_samples h fields t u (subst (SameSamples h t) (sym e) (SameSamples-splice h t new at is spliced front (ap (extensions_of h) (sym e) ∙ kept)))

@@ -5,6 +5,7 @@ use Rattle.field_map.specs.Pairs.{Pairs}
 use Rattle.frame_cut.specs.declared.limits.Limits.{Limits}
 use Rattle.frame_cut.specs.declared.reading.Reading.{Reading}
 use Rattle.frame_cut.specs.Cuts.{IsTrace, IsCut}
+use Rattle.frame_cut.specs.Frames.{extensions_of}
 use Rattle.frame_cut.specs.Splice.{splice}
 use Rattle.frame_cut.specs.Traces.{count_of}
 use Rattle.frame_cut.specs.Volume.{Volume, bytes_of}
@@ -31,12 +32,13 @@ numbers_of ps = map (λ p. (record_in p).number) ps
 abbrev pub IsOfFile : Volume → Type 0
 IsOfFile v = (reading : Reading) × (limits : Limits) × IsCut (bytes_of v) reading limits v
 
--- the bytes are cut into parts of at most 8 bytes, and each part may be laid over the headers of its trace: it leaves the trace whole
+-- the bytes are cut into parts, and each part may be laid over the headers of its trace: it leaves the trace whole, with as many header
+-- extensions
 pub record AreHeaderParts (v : Volume) (a at size : ℕ) (bytes : List ℕ) : Type 0 where
   pub some : 0 < size
-  pub small : size ≤ 8
   pub exact : length bytes % size ≡ 0
   pub last : a - 1 + length bytes / size ≤ count_of v
   pub traces : All (IsTrace v.head) v.traces
   pub front : (k : ℕ) → k < length bytes / size → at + size ≤ samples_at v.head (slice_index_or v.traces (a - 1 + k) [])
   pub whole : (k : ℕ) → k < length bytes / size → IsTrace v.head (splice (slice_index_or v.traces (a - 1 + k) []) at size (part_of bytes size k))
+  pub kept : (k : ℕ) → k < length bytes / size → extensions_of v.head (splice (slice_index_or v.traces (a - 1 + k) []) at size (part_of bytes size k)) ≡ extensions_of v.head (slice_index_or v.traces (a - 1 + k) [])

@@ -161,13 +161,8 @@ fn put_over_two(
     at: u64,
     bytes: &[u8; 4],
 ) -> Result<(), Fail> {
-    if !may_put(volume, 1, at, &bytes[..2]) {
-        return Err(Fail::from("no place for the bytes"));
-    }
-    if !may_put(volume, 2, at, &bytes[2..]) {
-        return Err(Fail::from("no place for the bytes"));
-    }
-    volume.put_each(alloc, 1, at, 2, bytes)?;
+    prepare_over_two(alloc, volume, at, bytes)?;
+    volume.commit();
     Ok(())
 }
 

@@ -50,6 +50,7 @@ pub(crate) fn put<T: Copy>(
     if !may_put(volume, p, at, bytes) {
         return Err(Fail::from("no place for the bytes"));
     }
-    volume.put(alloc, p, at, bytes)?;
+    volume.prepare_put(alloc, p, at, bytes)?;
+    volume.commit();
     Ok(())
 }

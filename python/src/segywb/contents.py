@@ -5,12 +5,15 @@ from __future__ import annotations
 from contextlib import closing
 from typing import Any, List, Optional, Union
 
-from . import answers, arrays, lines
+from . import answers, arrays, lines, many_stats
 from .answers import FloatStatistics, FloatTotals, Stanza, Statistics
 from .asked import FLOATS, NARROW
 from .engine import BATCH_LINES
-from .headers import Headers
-from .lines import Field, between, encode, number, position
+from .headers import Headers, rows_of
+from .lines import Field, between, choosing, encode, number, position
+
+# The sample formats of 8 bytes, whose sums may need more.
+WIDE = (9, 12)
 
 
 class Contents(Headers):
@@ -184,6 +187,31 @@ class Contents(Headers):
         """
         line = self._one("stat", position(trace))
         return answers.float_statistics(line, self.sample_type == "f4") if self.has_floats else answers.statistics(line, "stat")
+
+    def stats(self, traces: Any = None, where: Optional[str] = None) -> Any:
+        """The samples of many traces as a structured array, a row for each trace (without numpy: a
+        list of tuples): ``trace``, its position, ``least``, ``greatest``, ``sum``, ``zeros`` (how
+        many of them are 0) and ``samples`` (how many there are); of floats ``nans`` too, and a sum
+        that is exact, rounded once.
+
+        ``traces`` as for ``headers``. With ``where`` of those that meet its conditions (see
+        ``count``). A trace without samples, and one of floats of which none is a number, has no
+        ``least``, ``greatest`` and ``sum``: there the array is a masked one (``numpy.ma``), and the
+        tuples have ``None``.
+
+        >>> with segywb.open("cube.sgy") as v:
+        ...     v.stats(slice(1, 3)).tolist()
+        ...     v.stats(where="inline = 103 and crossline = 204")["least"].tolist()
+        [(1, -101, 41, -20, 1, 5), (2, -101, 42, -19, 1, 5)]
+        [-103]
+        >>> with segywb.open("wrong_floats.sgy") as v:
+        ...     v.stats(1).dtype.names, v.stats(1).tolist()
+        (('trace', 'least', 'greatest', 'sum', 'zeros', 'samples', 'nans'), [(1, -12.625, 5.125, -2.5, 1, 5, 0)])
+        """
+        more = "".join(f" {words}" for words in choosing(where))
+        told = self._windows(self._where(traces), lambda first, last: f"stats {first} {last}{more}")
+        kinds = many_stats.kinds(self.sample_type, self.has_floats, self._kept_format() in WIDE)
+        return many_stats.table([rows_of(one, b"stats ") for one, _ in told], kinds)
 
     @property
     def totals(self) -> Union[Statistics, FloatTotals, None]:

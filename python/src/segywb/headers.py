@@ -21,6 +21,8 @@ GET_LINES = 1 << 16
 # So many traces in a line of `table` or `find`, and so many lines and traces of such lines sent at once: this bounds the memory.
 WINDOW_TRACES = 1 << 15
 WINDOW_LINES = 1 << 12
+# A field that each trace has, whatever names are bound: it is read where positions alone are wanted.
+FIRST = "@1:4"
 
 
 class Headers(Asked):
@@ -70,30 +72,38 @@ class Headers(Asked):
         """
         self._edit("set", position(trace), field(name), number(value))
 
-    def set_many(self, name: Field, traces: Any, values: Any) -> None:
+    def set_many(
+        self, name: Field, traces: Any, values: Any, where: Optional[str] = None
+    ) -> Optional[int]:
         """Writes the values into a field of the traces: all of them, or none where one is refused.
 
         ``traces`` is a selection (see ``headers``); ``values`` has a number for each of its traces, or is one number for all:
         ``v.set_many("delay", v.dataframe("inline")["inline"] == 102, 0)``.
 
+        With ``where`` it is of those that meet its conditions (see ``count``), ``values`` has a
+        number for each of these, and how many they are is given back.
+
         >>> with segywb.open("cube.sgy") as v:
         ...     v.set_many("delay", slice(1, 4), [10, 20, 30])
         ...     v.set_many("delay", 5, 50)
-        ...     v.headers("delay", traces=slice(1, 6)).tolist()
-        [(10,), (20,), (30,), (0,), (50,)]
+        ...     v.set_many("delay", None, [60, 70], where="inline = 102 and crossline > 202")
+        ...     v.headers("delay", traces=slice(1, 9)).tolist()
+        2
+        [(10,), (20,), (30,), (0,), (50,), (0,), (60,), (70,)]
         """
-        where = self._where(traces)
-        what = [int(number(values))] * len(where) if lines.single(values) else lines.numbers(values)
-        if len(what) != len(where):
-            raise ValueError(f"{len(where)} traces and {len(what)} values")
+        meant = self._meant(traces, where)
+        what = [int(number(values))] * len(meant) if lines.single(values) else lines.numbers(values)
+        if len(what) != len(meant):
+            raise ValueError(f"{len(meant)} traces and {len(what)} values")
         word = field(name)
 
         def batches() -> Iterator[Batch]:
-            for at in range(0, len(where), BATCH_LINES):
-                some = list(zip(where[at:at + BATCH_LINES], what[at:at + BATCH_LINES]))
+            for at in range(0, len(meant), BATCH_LINES):
+                some = list(zip(meant[at:at + BATCH_LINES], what[at:at + BATCH_LINES]))
                 yield encode("".join([f"set {one} {word} {value}\n" for one, value in some])), len(some)
 
         self._engine.edit_whole(batches())
+        return None if where is None else len(meant)
 
     def set_each(
         self, name: Field, value: int, traces: Any = None, where: Optional[str] = None
@@ -193,6 +203,28 @@ class Headers(Asked):
             raise TypeError("a computation wants a field or a number to begin with")
         words = ["compute", between(first_trace, last_trace), field(name), *map(lines.term, formula)]
         return self._edit(*words, where=where)
+
+    def swap(
+        self, name: Field, other: Field, first: Optional[int] = None, last: Optional[int] = None,
+        where: Optional[str] = None
+    ) -> Optional[int]:
+        """Lets the numbers of two fields change places, in each of the traces from ``first`` to
+        ``last`` (which is among them, as in ``renumber``), all or none. Where an end is left out it
+        is that of the file.
+
+        With ``where`` it is of those that meet its conditions (see ``count``), and their number is
+        given back. A number that does not fit into the other field is a ``Refused``.
+
+        >>> with segywb.open("cube.sgy") as v:
+        ...     v.swap("inline", "crossline")
+        ...     v.headers("inline", "crossline", traces=[1, 12]).tolist()
+        ...     v.swap("inline", "crossline", first=1, last=8, where="inline > 202")
+        ...     v.edits
+        [(201, 101), (204, 103)]
+        4
+        ['swap all inline crossline', 'swap 1 8 inline crossline where inline > 202']
+        """
+        return self._edit("swap", between(first, last), field(name), field(other), where=where)
 
     def sort(self, first_trace: Optional[int], last_trace: Optional[int], *keys: Field) -> None:
         """Puts the traces from ``first_trace`` to ``last_trace`` (which is among them) in the order of one to eight fields; equal ones stay as they
@@ -329,7 +361,7 @@ class Headers(Asked):
         unsigned = self._kinds([word])[0] == (8, True)
         columns: List[List[Any]] = [[], []]
         for told, _ in self._windows(meant, lambda first, last: f"find {first} {last} {word} {asked}"):
-            rows = _rows(told, b"found ").replace(b"trace ", b"")
+            rows = rows_of(told, b"found ").replace(b"trace ", b"")
             flat = arrays.parse(rows, 2 * rows.count(b"\n"), unsigned)
             columns[0].append(flat[0::2])
             columns[1].append(flat[1::2])
@@ -373,6 +405,10 @@ class Headers(Asked):
         """The positions that are meant. How many traces there are is asked where it matters."""
         return positions(traces, self.count)
 
+    def _meant(self, traces: Any, where: Optional[str]) -> Sequence[int]:
+        """The positions that are meant, of those that meet conditions."""
+        return self._where(traces) if where is None else self._numbers_of([FIRST], traces, where)[0]
+
     def _kinds(self, words: Sequence[str]) -> List[Optional[Tuple[int, bool]]]:
         places = {**TRACE_NAMES, **self.fields()}
         return [kind(places.get(word, word)) for word in words]
@@ -409,7 +445,7 @@ class Headers(Asked):
             named = " ".join([*part, more])
             asked = self._windows(traces, lambda first, last: f"table {first} {last} {named}")
             for told, _ in asked:
-                rows = _rows(told, b"table ")
+                rows = rows_of(told, b"table ")
                 numbers = arrays.parse(rows, rows.count(b"\n") * len(columns), unsigned)
                 for at, column in enumerate(columns):
                     column.append(numbers[at::len(columns)])
@@ -428,7 +464,7 @@ class Headers(Asked):
         wide, named = len(words) + 1, " ".join(words)
         parts: List[List[Any]] = []
         for told, count in self._windows(where, lambda first, last: f"table {first} {last} {named}"):
-            numbers = arrays.parse(_rows(told, b"table "), count * wide, unsigned)
+            numbers = arrays.parse(rows_of(told, b"table "), count * wide, unsigned)
             parts.append([numbers[at::wide] for at in range(1, wide)])
         return [_join([part[at] for part in parts]) for at in range(len(words))]
 
@@ -512,7 +548,7 @@ def _cut(pieces: Sequence[Tuple[bytes, int]]) -> Iterator[List[Tuple[bytes, int]
         yield some
 
 
-def _rows(told: bytes, head: bytes) -> bytes:
+def rows_of(told: bytes, head: bytes) -> bytes:
     """The rows of answers that are lists, without the lines that count them."""
     heads_and_rows = [one.partition(b"\n") for one in told.split(b"\n\n")[:-1]]
     for first, _, _ in heads_and_rows:

@@ -15,6 +15,8 @@ Path = Union[str, "os.PathLike[str]"]
 LONGEST = 16777216
 _MOVING = re.compile(rb"^[ \t]*((?:blank|copy|delete|move|resize|sort)[ \t][^\r\n]*)", re.M)
 _DROPPING = re.compile(rb"^[ \t]*drop[ \t]", re.M)
+_SIGNS = ("=", "!=", "<", "<=", ">", ">=")
+_SIGN = re.compile(r"[ \t]*([=!<>]+)[ \t]*")
 
 
 def number(value: Any) -> str:
@@ -60,10 +62,15 @@ def between(first: Optional[int], last: Optional[int]) -> str:
 
 def choosing(where: Optional[str]) -> List[str]:
     """The words that choose traces, behind all others of a line: none without conditions. What
-    conditions are the program says; a text that is none of a line is refused here.
+    conditions are the program says; a text that is none of a line is refused here, and so is one
+    whose signs are no words of their own, with what is meant: no field has a sign in its name.
 
     >>> choosing("inline = 102 and crossline > 202"), choosing(None)
     (['where inline = 102 and crossline > 202'], [])
+    >>> choosing("inline=102")
+    Traceback (most recent call last):
+    ...
+    ValueError: a sign of conditions stands between blanks, and is one of = != < <= > >=: 'inline = 102', not 'inline=102'
     """
     if where is None:
         return []
@@ -71,7 +78,19 @@ def choosing(where: Optional[str]) -> List[str]:
         raise TypeError(f"conditions are a text, as 'inline = 102', not {where!r}")
     if not where.strip():
         raise ValueError("conditions are wanted, as 'inline = 102', and this text is empty")
-    return ["where " + word(where)]
+    if any(_SIGN.search(one) and one not in _SIGNS for one in word(where).split()):
+        raise ValueError(f"a sign of conditions stands between blanks, and is one of {' '.join(_SIGNS)}: {_spaced(where)}not {where!r}")
+    return ["where " + where]
+
+
+def _spaced(where: str) -> str:
+    """What may be meant by conditions whose signs are none, or stand without blanks.
+
+    >>> _spaced("inline==102 and x>=3"), _spaced("x <> 3")
+    ("'inline = 102 and x >= 3', ", '')
+    """
+    spaced = _SIGN.sub(lambda found: f" {found[1].replace('==', '=')} ", where).strip()
+    return f"{spaced!r}, " if all(sign in _SIGNS for sign in _SIGN.findall(spaced)) else ""
 
 
 def field(name: Field) -> str:

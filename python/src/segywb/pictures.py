@@ -101,9 +101,7 @@ def headers(
     """
     np = _numpy()
     names = [field(one) for one in fields or ("inline", "crossline")]
-    known = where is None
-    meant = volume._where(traces) if known else volume._numbers_of(["@1:4"], traces, where)[0]
-    meant = np.asarray(meant, dtype=np.int64)
+    meant = np.asarray(volume._meant(traces, where), dtype=np.int64)
     order = np.argsort(meant, kind="stable")
     found = volume.headers(*names, traces=meant[order])
     rows = _rows(len(names), path is not None)
@@ -133,7 +131,7 @@ def _rows(count: int, saved: bool, size: Optional[Tuple[float, float]] = None, h
 
 def section(
     volume: Volume, traces: Any = None, style: str = "density", gain: gains.Gain = gains.Gain(), colours: str = "grey", above: Sequence[Field] = (),
-    path: Optional[Path] = None, **values: int
+    path: Optional[Path] = None, where: Optional[str] = None, **values: int
 ) -> List[Any]:
     """A section as ``Volume.section`` gives it, times downwards; ``above`` it header fields on the same axis.
 
@@ -145,7 +143,7 @@ def section(
         raise ValueError(f"a section is drawn as {', '.join(STYLES)}, in the colours {', '.join(COLOURS)}")
     gains.checked(gain)
     names = [field(one) for one in above]
-    found = volume.section_of(volume.section_traces(traces, **values))
+    found = volume.section(traces, where, **values)
     rows = _rows(len(names) + 1, path is not None, (9.0, 6.0 + 1.2 * len(names)), [1.0] * len(names) + [5.0])
     headers_above = volume.headers(*names, traces=found.traces) if names else {}
     for axes, name in zip(rows, names):
@@ -153,7 +151,7 @@ def section(
         axes.set_ylabel(name)
         axes.ticklabel_format(style="plain", axis="y", useOffset=False)
     _section(rows[-1], found, style, gain, colours)
-    rows[0].set_title(described(values))
+    rows[0].set_title(described(values, where))
     _trace_axis(rows[-1], volume, found, values)
     if path is not None:
         rows[0].figure.savefig(os.fspath(path))

@@ -2,20 +2,21 @@
 
 from __future__ import annotations
 
-from typing import Dict, List, NamedTuple, Optional
+from typing import Any, Dict, List, NamedTuple, Optional
 
-from .answers import MEANINGS, strict, unexpected, words
+from .answers import MEANINGS, floating, strict, unexpected, words
 
 
 class ProblemRun(NamedTuple):
     """The traces ``first`` to ``last``, one after another, that have a problem with the same facts;
     of S7 and S8 the first and the last line of a gap that is missing.
 
-    The facts are numbers by their words, as ``{"scalar": 100, "usual": -100}``."""
+    The facts are numbers by their words, as ``{"scalar": 100, "usual": -100}``: whole ones, but for
+    the ``value`` of S12 and the ``amount`` of S13 in a file of floats, which are floats."""
 
     first: int
     last: int
-    facts: Dict[str, int]
+    facts: Dict[str, Any]
 
 
 class Problem(NamedTuple):
@@ -104,6 +105,8 @@ class Problem(NamedTuple):
         return self.facts.get("lines", self.facts.get("missing", 1))
 
 
+# the facts that tell of samples
+_SAMPLES = ("value", "amount")
 # the codes that one number mends, that of most traces, and the field that it is written to
 _USUAL = {"S3": "scalar", "S4": "delay"}
 # the words behind the code: those of a problem without runs stand here, and those of S7 and S8
@@ -127,16 +130,19 @@ def _numbers(got: List[str]) -> Dict[str, int]:
     return {word: int(number) for word, number in zip(got[0::2], got[1::2])}
 
 
-def _run(line: str) -> ProblemRun:
+def _run(line: str, samples: str = "i8") -> ProblemRun:
     """
-    >>> _run("run 2 3 before 1")
-    ProblemRun(first=2, last=3, facts={'before': 1})
+    >>> _run("run 2 3 before 1"), _run("run 5 6 value -2.5", "f8")
+    (ProblemRun(first=2, last=3, facts={'before': 1}), ProblemRun(first=5, last=6, facts={'value': -2.5}))
     """
     first, last, *facts = words(line, "run")
+    if samples.startswith("f") and facts and facts[0] in _SAMPLES:
+        word, value = facts
+        return ProblemRun(int(first), int(last), {word: floating(value, samples == "f4")})
     return ProblemRun(int(first), int(last), _numbers(facts))
 
 
-def _problem(lines: List[str], of: Optional[int] = None) -> Problem:
+def _problem(lines: List[str], of: Optional[int] = None, samples: str = "i8") -> Problem:
     """
     >>> _problem(["problem S7 missing 3 runs 1", "run 103 107 step 2"]).first_runs[0].facts
     {'step': 2}
@@ -147,19 +153,21 @@ def _problem(lines: List[str], of: Optional[int] = None) -> Problem:
         raise unexpected(lines[0])
     runs = facts.pop("runs", 0)
     traces = None if code == "F7" else facts.pop("traces", None)
-    told = [_run(line) for line in lines[1:]]
+    told = [_run(line, samples) for line in lines[1:]]
     if len(told) != min(runs, 10):
         raise unexpected(lines[0])
     return Problem(code, traces, runs, told, facts, "\n".join(lines), of)
 
 
 @strict
-def problems(lines: List[str], of: Optional[int] = None) -> List[Problem]:
-    """Of a file of so many traces, where that is known.
+def problems(lines: List[str], of: Optional[int] = None, samples: str = "i8") -> List[Problem]:
+    """Of a file of so many traces, where that is known, whose samples have this numpy type.
 
     >>> told = ["problem F8 lines 3", "problem S12 traces 2 runs 1", "run 5 6 value 0"]
     >>> [(one.code, one.traces, one.facts) for one in problems(["problems 2", *told])]
     [('F8', None, {'lines': 3}), ('S12', 2, {})]
+    >>> problems(["problems 1", "problem S13 traces 1 runs 1", "run 5 5 amount 0.1"], 9, "f4")[0].first_runs[0].facts
+    {'amount': 0.10000000149011612}
     """
     groups: List[List[str]] = []
     for line in lines[1:]:
@@ -168,4 +176,4 @@ def problems(lines: List[str], of: Optional[int] = None) -> List[Problem]:
         groups[-1].append(line)
     if words(lines[0], "problems") != [str(len(groups))]:
         raise unexpected(lines[0])
-    return [_problem(group, of) for group in groups]
+    return [_problem(group, of, samples) for group in groups]

@@ -59,6 +59,9 @@ class Reports(Contents):
         ...     grid = v.fit()
         >>> [round(one, 6) for one in grid.spacing], round(float(grid.misfit.max()), 6), [round(one, 3) for one in grid.at(102, 203)]
         ([25.0, 25.0], 0.0, [450050.0, 6800025.0])
+        >>> with segywb.open("cube.sgy") as v:
+        ...     v.fit(where="inline != 102 and x != 0").traces.tolist()
+        [1, 2, 3, 4, 9, 10, 11, 12]
         """
         names = ["inline", "crossline", "x", "y", "scalar"]
         meant, (*numbers, scalar) = self._numbers_of(names, traces, where)
@@ -170,7 +173,7 @@ class Reports(Contents):
         ...         print(one.code, one.traces, one.first_runs[0])
         F1 5 ProblemRun(first=7, last=11, facts={'shift': 1})
         """
-        return problems.problems(self._ask("problems"), len(self))
+        return problems.problems(self._ask("problems"), len(self), self.sample_type)
 
     def _counts(self, line: str, head: str, row: str) -> Dict[int, int]:
         return answers.counts(self._ask(line), head, row)

@@ -3,7 +3,7 @@
 from __future__ import annotations
 
 import importlib
-from typing import Any, Dict, NamedTuple, Sequence
+from typing import Any, Dict, NamedTuple, Optional, Sequence
 
 from . import lines, many_samples
 from .many_samples import Kind
@@ -40,7 +40,9 @@ class Section(NamedTuple):
 class Sections(Reports):
     """A part of ``Volume``: its sections."""
 
-    def section(self, traces: Any = None, **values: int) -> Section:
+    def section(
+        self, traces: Any = None, where: Optional[str] = None, **values: int
+    ) -> Section:
         """The samples of many traces as a 2-D array, with the positions of the traces and the times
         of the samples in milliseconds.
 
@@ -48,7 +50,8 @@ class Sections(Reports):
         trace_in_record=1)``: the traces whose fields have these numbers, of ``traces`` (a selection
         as for ``headers``; all where it is left out). Those of an inline come in order of their
         crosslines, those of a crossline in order of their inlines, all others in the order of the
-        file; of ``traces`` alone in the order of the selection.
+        file; of ``traces`` alone in the order of the selection. With ``where`` of those that meet
+        its conditions (see ``count``): ``v.section(where="offset > 0", field_record=7)``.
 
         The samples are int64 (uint64 in format 12), float32 in format 5, float64 in the formats 1
         and 6. Time begins at the delay (bytes 109-110); where delays differ each trace stands at
@@ -61,30 +64,37 @@ class Sections(Reports):
         ...     array, traces, times = v.section(inline=102)
         ...     array.tolist()[0], traces.tolist(), times.tolist()
         ([21, 41, -102, 29, 0], [5, 6, 7, 8], [0.0, 4.0, 8.0, 12.0, 16.0])
+        >>> with segywb.open("cube.sgy") as v:
+        ...     v.section(where="crossline > 202", inline=102).traces.tolist()
+        [7, 8]
         """
-        where = self.section_traces(traces, **values)
-        return self.section_of(where)
+        return self.section_of(self.section_traces(traces, where, **values))
 
-    def section_traces(self, traces: Any = None, **values: int) -> Any:
-        """The positions of the traces of ``section``, in its order, as an array.
+    def section_traces(
+        self, traces: Any = None, where: Optional[str] = None, **values: int
+    ) -> Any:
+        """The positions of the traces of ``section``, in its order, as an array. With ``where`` of
+        those that meet its conditions (see ``count``).
 
         >>> with segywb.open("cube.sgy") as v:
         ...     v.section_traces(crossline=203).tolist()
         ...     v.section_traces(slice(1, 8), crossline=203).tolist()
+        ...     v.section_traces(where="inline != 102", crossline=203).tolist()
         [3, 7, 11]
         [3, 7]
+        [3, 11]
         """
         np = _numpy()
-        where = np.asarray(self._where(traces), dtype=np.int64)
+        found = np.asarray(self._meant(traces, where), dtype=np.int64)
         for name, value in values.items():
             number = lines.number(value)
-            where = np.asarray(
-                self.find(name, int(number), int(number), where)["trace"], dtype=np.int64
+            found = np.asarray(
+                self.find(name, int(number), int(number), found)["trace"], dtype=np.int64
             )
         along = [ALONG[name] for name in values if name in ALONG]
-        if len(along) == 1 and len(where):
-            where = where[np.argsort(self.headers(along[0], traces=where)[along[0]], kind="stable")]
-        return where
+        if len(along) == 1 and len(found):
+            found = found[np.argsort(self.headers(along[0], traces=found)[along[0]], kind="stable")]
+        return found
 
     def section_of(self, traces: Sequence[int]) -> Section:
         """The section of these positions, in their order.
@@ -250,13 +260,16 @@ def _placed(found: Any, sizes: Any, shifts: Any, where: Any, first: float, step:
     return Section(np.ma.MaskedArray(made, mask=~there), where, times)
 
 
-def described(values: Dict[str, int]) -> str:
+def described(values: Dict[str, int], where: Optional[str] = None) -> str:
     """What a section is of, in words.
 
     >>> described({"inline": 1100}), described({}), described({"field_record": 7, "offset": 0})
     ('inline 1100', 'traces', 'field_record 7, offset 0')
+    >>> described({"inline": 1100}, "offset > 0"), described({}, "offset > 0")
+    ('inline 1100, where offset > 0', 'traces, where offset > 0')
     """
-    return ", ".join(f"{name} {value}" for name, value in values.items()) or "traces"
+    told = ", ".join(f"{name} {value}" for name, value in values.items()) or "traces"
+    return told if where is None else f"{told}, where {where}"
 
 
 def _numpy() -> Any:

@@ -303,7 +303,10 @@ class Volume(Sections):
         >>> import os, tempfile
         >>> with segywb.open("cube.sgy") as v:
         ...     len(v.plot_headers("inline", "x", path=os.path.join(tempfile.mkdtemp(), "headers.png")))
+        ...     (drawn,) = v.plot_headers("x", where="inline = 102", path=os.path.join(tempfile.mkdtemp(), "some.png"))
+        ...     drawn.lines[0].get_xdata().tolist()
         2
+        [5, 6, 7, 8]
         """
         from . import pictures
 
@@ -311,7 +314,7 @@ class Volume(Sections):
 
     def plot_section(
         self, traces: Any = None, style: str = "density", gain: Gain = Gain(), colours: str = "grey", above: Sequence[Field] = (), path: Optional[Path] = None,
-        **values: int
+        where: Optional[str] = None, **values: int
     ) -> List[Any]:
         """Draws a section by matplotlib, which is chosen as for ``section``: ``v.plot_section(inline=1100, path="section.png")``.
 
@@ -320,16 +323,21 @@ class Volume(Sections):
         (``"agc"``) with a window in milliseconds; ``reverse=True`` turns the polarity. ``colours``: ``"grey"``, ``"red-white-blue"`` or
         ``"purple-white-orange"``, which colour-blind eyes can tell apart. ``above``: header fields that are drawn above it. A display alone: no sample is
         changed. With ``path`` the picture is saved there. The axes are given back, that of the section last. It needs numpy and matplotlib.
+        With ``where`` it is of the traces that meet its conditions (see ``count``).
 
         >>> import os, tempfile
         >>> with segywb.open("cube.sgy") as v:
         ...     axes = v.plot_section(inline=102, style="both", above=["x"], path=os.path.join(tempfile.mkdtemp(), "section.png"))
         ...     axes[-1].get_xlabel(), axes[-1].get_ylabel()
         ('crossline', 'time (ms)')
+        >>> with segywb.open("cube.sgy") as v:
+        ...     axes = v.plot_section(where="crossline > 202", inline=102, path=os.path.join(tempfile.mkdtemp(), "some.png"))
+        ...     axes[-1].get_title()
+        'inline 102, where crossline > 202'
         """
         from . import pictures
 
-        return pictures.section(self, traces, style, gain, colours, above, path, **values)
+        return pictures.section(self, traces, style, gain, colours, above, path, where, **values)
 
     def _repr_html_(self) -> str:
         from .html import page

@@ -322,11 +322,12 @@ class Desk:
         fields, known = self.volume.fields(), {}
         for line in lines:
             words = line.split()
-            name = mirror.written(words)
-            if name is not None and name not in known:
-                span = mirror.spanned(fields.get(name, TRACE_NAMES.get(name, name)))
-                known[name] = span is None or (span[0] < TIMES[1] and TIMES[0] < span[1])
-            if known[name] if name is not None else words[0] not in ("map", "unmap", "text"):
+            names = mirror.written(words)
+            for name in names:
+                if name not in known:
+                    span = mirror.spanned(fields.get(name, TRACE_NAMES.get(name, name)))
+                    known[name] = span is None or (span[0] < TIMES[1] and TIMES[0] < span[1])
+            if any(known[name] for name in names) if names else words[0] not in ("map", "unmap", "text"):
                 self.sampled = self.version
                 return
 

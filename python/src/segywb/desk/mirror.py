@@ -19,7 +19,7 @@ MOST_MORE = 8
 MOST_MOVES = 2000
 SIGNS = ("=", "!=", "<", "<=", ">", ">=")
 # Words of the traces P to Q, or `all` of them; the first two name a single trace as well.
-RANGED = ("set", "delete", "renumber", "compute", "sort")
+RANGED = ("set", "delete", "renumber", "compute", "sort", "swap")
 
 Told = Callable[[int, int], None]
 
@@ -200,7 +200,7 @@ class Plan:
             self._delete(first, last)
         else:
             self.flush()
-            if self._touches(rest[0]):
+            if any(self._touches(field) for field in rest[:2 if word == "swap" else 1]):
                 self.stale[first - 1:last] = True
 
     def _range(self, words: Sequence[str]) -> Tuple[int, int, Sequence[str]]:
@@ -273,16 +273,17 @@ class Plan:
         self.row, self.stale = rows[order], self.stale[order]
 
 
-def written(words: Sequence[str]) -> Optional[str]:
-    """The field of trace headers into which a line writes numbers.
+def written(words: Sequence[str]) -> Sequence[str]:
+    """The fields of trace headers into which a line writes numbers.
 
-    >>> [written(line.split()) for line in ("set 1 x 5", "set all x 5 where y = 1", "compute 1 9 x y", "delete 4")]
-    ['x', 'x', 'x', None]
+    >>> [written(line.split()) for line in ("set 1 x 5", "set all x 5 where y = 1", "swap 1 9 x y", "delete 4")]
+    [['x'], ['x'], ['x', 'y'], []]
     """
-    if not words or words[0] not in ("set", "renumber", "compute"):
-        return None
+    if not words or words[0] not in ("set", "renumber", "compute", "swap"):
+        return []
     plain = chosen_of(words)
-    return plain[2] if plain[1] == "all" or words[0] == "set" and len(plain) == 4 else plain[3]
+    at = 2 if plain[1] == "all" or words[0] == "set" and len(plain) == 4 else 3
+    return plain[at:at + (2 if words[0] == "swap" else 1)]
 
 
 def chosen_of(words: Sequence[str]) -> Sequence[str]:

@@ -123,10 +123,10 @@ def line_of(one: Problem, volume: Volume) -> Optional[str]:
     return {"F9": f"set {span} @233:8 0", "S12": f"set {span} trace_code 2"}.get(one.code)
 
 
-def _facts(facts: Dict[str, int]) -> str:
+def _facts(facts: Dict[str, Any]) -> str:
     """
-    >>> _facts({"scalar": 10, "usual": -100})
-    'scalar 10 usual -100'
+    >>> _facts({"scalar": 10, "usual": -100}), _facts({"value": 0.25})
+    ('scalar 10 usual -100', 'value 0.25')
     """
     return " ".join(f"{word} {number}" for word, number in facts.items())
 

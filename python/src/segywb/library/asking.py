@@ -7,6 +7,7 @@ from collections import Counter
 from typing import Any, Dict, Iterator, List, Optional, Sequence, Tuple
 
 from .. import answers
+from ..asked import FLOATS
 from ..problems import problems
 from . import tails
 from .facts import Facts
@@ -58,7 +59,7 @@ def ask(talk: Talk, facts: Facts, report: str) -> Tuple[int, int]:
     facts.texts.append((0, _block(talk.answer())))
     final = tails.last(talk)
     facts.headers = _headers(talk, info.traces)
-    facts.problems = _problems(talk, report)
+    facts.problems = _problems(talk, report, info.format)
     _more(talk, facts, info, positions(info.traces, ends))
     columns.update(tails.columns(talk, info, columns["interval"], final))
     # The manual's cut of a file: texts of 3200 bytes behind the two headers, then the traces, then trailer records of 3200 bytes.
@@ -111,7 +112,7 @@ def _headers(talk: Talk, traces: int) -> List[Tuple[str, int, int, int, int]]:
     return []
 
 
-def _problems(talk: Talk, report: str) -> Dict[str, int]:
+def _problems(talk: Talk, report: str, form: int) -> Dict[str, int]:
     """How many have each problem, of a program that may not know the report.
 
     Of `problems` these are traces, of F8 lines of the textual header, of F7 one; of S7 and S8 the
@@ -124,10 +125,11 @@ def _problems(talk: Talk, report: str) -> Dict[str, int]:
         list(lines)
         _older[found().path] = True
         talk.send(["faults"])
-        return _problems(talk, "faults")
+        return _problems(talk, "faults", form)
     accepted(head)
     if report == "problems":
-        return {one.code: one.how_many for one in problems([head, *lines])}
+        samples = "f8" if form in FLOATS else "i8"
+        return {one.code: one.how_many for one in problems([head, *lines], None, samples)}
     return counted(lines)
 
 

@@ -4,7 +4,7 @@ use Rattle.chosen_traces.proofs.ChoosingLemmas.{all_rise, chosen_all, few_there,
 use Rattle.chosen_traces.proofs.choosing.choose.Goals as goal
 
 pub returns-then-len-eq0-clause-ok : goal.returns-then-len-eq0-clause-ok
-returns-then-len-eq0-clause-ok c = λ sure.
+returns-then-len-eq0-clause-ok c = λ sure beside.
     chosen_all c.args.overlay.now.volume c.args.map.now.pairs c.args.chosen.now c.as_slice.result.now c.in_ok-tests.tests.items (c.in-Some.first, c.in-Some.last)
     c.as_slice.ensures c.in_ok-tests.ensures.ok c.in-Some.is c.in_ok-all.field-0.items (search rules) c.in_ok-all.ensures
 
@@ -25,12 +25,12 @@ pub returns-clause-rising : goal.returns-clause-rising
 returns-clause-rising c =
     let v = c.args.overlay.now.volume in
     let r : ℕ × ℕ = (c.in-Some.first, c.in-Some.last) in
-    if_ok c.chosen_from.result (λ traces up. rise_within v r traces.items (range_free v c.args.chosen.now.traces r c.in-Some.is c.requires) up) c.chosen_from.ensures.rising
+    if_ok c.chosen_of.result (λ traces up. rise_within v r traces.items (range_free v c.args.chosen.now.traces r c.in-Some.is c.requires) up) c.chosen_of.ensures.rising
 
 pub returns-clause-few : goal.returns-clause-few
 returns-clause-few c =
     let v = c.args.overlay.now.volume in
     let r : ℕ × ℕ = (c.in-Some.first, c.in-Some.last) in
-    if_ok c.chosen_from.result
+    if_ok c.chosen_of.result
     (λ traces up. few_there v c.args.map.now.pairs c.args.chosen.now c.as_slice.result.now c.in_ok-tests.tests.items r c.as_slice.ensures c.in_ok-tests.ensures.ok c.in-Some.is traces.items (range_free v c.args.chosen.now.traces r c.in-Some.is c.requires) up)
-    c.chosen_from.ensures.rising
+    c.chosen_of.ensures.rising

@@ -6,7 +6,7 @@ use Rattle.frame_cut.specs.Volume.{Volume}
 use Rattle.header_answers.specs.declared.seen.Seen.{Seen}
 use Rattle.header_answers.specs.Seen.{seen_each, shown_of}
 use Rattle.bench_rules.proofs.LookLemmas.{if_sure, seen_after}
-use Rattle.header_answers.proofs.RisingLemmas.{rising_trace}
+use Rattle.bench_rules.proofs.RisingLemmas.{rising_trace}
 use Rattle.header_answers.proofs.SeenLemmas.{listed_seen, listed_shown}
 use Rattle.header_answers.proofs.all_extremes.extremes_among.Goals as goal
 

@@ -8,7 +8,7 @@ use Rattle.frame_cut.specs.Volume.{Volume}
 use Rattle.bench_rules.proofs.LookLemmas.{seen_after}
 use Rattle.bench_rules.proofs.SeenLemmas.{seen_at_most}
 use Rattle.header_answers.proofs.FoundLemmas.{listed_go_on, listed_lacks, listed_found}
-use Rattle.header_answers.proofs.RisingLemmas.{rising_trace}
+use Rattle.bench_rules.proofs.RisingLemmas.{rising_trace}
 use Rattle.header_answers.proofs.finds.found_among.Goals as goal
 
 pub number_at-requires : goal.number_at-requires

@@ -7,7 +7,7 @@ use Rattle.trace_record.specs.Facts.{facts_of}
 use Rattle.trace_record.specs.Packed.{record_in}
 use Rattle.trace_record.specs.declared.packed_record.PackedRecord.{PackedRecord}
 use Rattle.trace_record.specs.declared.record.Record.{Record}
-use Rattle.edit_overlay.specs.CountedVolume.{CountedVolume}
+use Rattle.edit_overlay.specs.CountedVolume.{CountedVolume, IsSeen}
 use Rattle.time_slice.specs.Fitting.{value_fits}
 use Rattle.bench_rules.specs.Slices.{row_of}
 use Rattle.bench_rules.specs.declared.row.Row.{Row}
@@ -21,8 +21,9 @@ loop-at-preserved c =
     let v : Volume = o.volume in
     let k = c.args.k in
     let i = c.loop-at.at in
-    let now : CountedVolume PackedRecord = c.loop-at.overlay in
+    let now : CountedVolume PackedRecord = c.read_ahead.new.self in
     let told = c.loop-at.invariant in
+    let seen : IsSeen o now i = subst (λ (x : CountedVolume PackedRecord). IsSeen o x i) (sym c.read_ahead.ensures) told.seen in
     let old : List Row = c.loop-at.rows.items in
     let new : List Row = c.push_row.new.rows.items in
     let sample = c.in_ok-sample.ensures in
@@ -31,16 +32,16 @@ loop-at-preserved c =
     let there : i < count_of v = omega (arith, c.loop-at-test.true, c.count-count.ensures) in
     let place : i + 1 - 1 ≡ i = omega arith in
     let here : slice_get o.payloads i ≡ Some packed =
-    ap (λ (ps : List PackedRecord). slice_get ps i) (sym told.seen.payloads) ∙ (ap (λ (n : ℕ). slice_get now.payloads n) (sym place) ∙ c.payload-packed.ensures) in
+    ap (λ (ps : List PackedRecord). slice_get ps i) (sym seen.payloads) ∙ (ap (λ (n : ℕ). slice_get now.payloads n) (sym place) ∙ c.payload-packed.ensures) in
     let grew : new ≡ old ++ row_of (i + 1) (facts_of (record_in packed)) s =
     c.in_ok-push_row.ensures ∙ ap (λ (r : Record). old ++ row_of (i + 1) (facts_of r) s) c.record.ensures in
     record {
       written = λ sure. row_is_written v.head k i o.payloads v.traces packed s old new _ here there
-          (sample.sample sure ∙ (ap (λ (u : Volume). sample_of u.head (trace_at u (i + 1)) k) told.seen.volume ∙ ap (λ (n : ℕ). sample_of v.head (get_or v.traces n []) k) place))
-          grew (told.written (sample.agreed sure));
+          (sample.sample sure ∙ (ap (λ (u : Volume). sample_of u.head (trace_at u (i + 1)) k) seen.volume ∙ ap (λ (n : ℕ). sample_of v.head (get_or v.traces n []) k) place))
+          grew (told.written (subst (λ (x : CountedVolume PackedRecord). IsTrue x.agreed) c.read_ahead.ensures (sample.agreed sure)));
       fits = fits_more v.head.format old new (i + 1) (facts_of (record_in packed)) s grew
-          (subst (λ (u : Volume). IfSome s (λ x. IsTrue (value_fits u.head.format x))) told.seen.volume sample.fits) told.fits;
-      seen = seen_more o now c.sample_in.new.overlay i told.seen sample.looked sample.agreed;
+          (subst (λ (u : Volume). IfSome s (λ x. IsTrue (value_fits u.head.format x))) seen.volume sample.fits) told.fits;
+      seen = seen_more o now c.sample_in.new.overlay i seen sample.looked sample.agreed;
     }
 
 pub returns-clause-rows : goal.returns-clause-rows

@@ -1,4 +1,4 @@
-use Rattle.std.proofs.Common.{◌+◌, ◌-◌, ◌<◌, ◌≤◌, length}
+use Rattle.std.proofs.Common.{◌-◌, ◌<◌, ◌≤◌, length}
 use Rattle.std.specs.Prelude.{slice_index}
 use Rattle.trace_seq.proofs.fronts.find_group.Given as goal
 
@@ -9,8 +9,6 @@ invariant-halves l = record {
   some : 0 < length l.fronts → l.number < l.end;
   before : 0 < l.number → slice_index l.fronts l.number ≤ l.place;
   behind : l.end < length l.fronts → l.place < slice_index l.fronts l.end;
-  counted : l.initial.probes ≤ l.probes;
-  few : l.probes + (l.end - l.number) ≤ l.initial.probes + length l.fronts;
 }
 
 abbrev pub decreases-halves : goal.decreases-halves

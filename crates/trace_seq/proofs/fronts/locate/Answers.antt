@@ -9,10 +9,4 @@ returns-then-left-size-clause-offset c = omega (arith, c.if-left-size.true, c.le
 
 pub loop-k-preserved : goal.loop-k-preserved
 loop-k-preserved c =
-    let i = c.loop-k.invariant in
-    record {
-      place = omega (arith, c.if-left-size.false, c.len-size.ensures, c.index-chunks-k.result.ids.ok, ap (λ (x : Chunk). vec_len x.ids) c.index-chunks-k.is, i.place, size-read c.args.chunks.now c.loop-k.k c.index-chunks-k.result c.loop-k-test.true c.index-chunks-k.is, front-more c.args.chunks.now c.loop-k.k c.loop-k-test.true);
-      from = omega (arith, i.from);
-      counted = omega arith;
-      probes = omega (arith, i.probes, i.from);
-    }
+    omega (arith, c.if-left-size.false, c.len-size.ensures, c.index-chunks-k.result.ids.ok, ap (λ (x : Chunk). vec_len x.ids) c.index-chunks-k.is, c.loop-k.invariant, size-read c.args.chunks.now c.loop-k.k c.index-chunks-k.result c.loop-k-test.true c.index-chunks-k.is, front-more c.args.chunks.now c.loop-k.k c.loop-k-test.true)

@@ -1,11 +1,11 @@
-// Where the panels stand: two side by side, the others below; one can fill the window. Sizes are kept in the browser.
+// Where the panels stand: two side by side, the others below, and each of them a tab over both sides; one can fill the window. Sizes are kept in the browser.
 
 import { at, make } from "./dom.js";
 
 const PANELS = { maps: "Maps", side: "Reports", section: "Section", graph: "Graph", headers: "Trace headers" };
 const KEPT = "segywb-desk-layout";
 // The plots are as high as the window allows with the command line still in it.
-const tallest = () => Math.min(Math.max(window.innerHeight - 368, 352), 1600);
+const tallest = () => Math.min(Math.max(window.innerHeight - 398, 352), 1600);
 const FIRST = { left: "maps", right: "side", split: 63, tall: tallest(), open: ["headers"] };
 let state = { ...FIRST };
 let whole = null;
@@ -35,6 +35,24 @@ function keep() {
   }
 }
 
+// What each side shows is a tab of it, so that no panel is out of sight below the others.
+function tabsOf(side) {
+  const room = at(`${side}-panels`);
+  const tabs = Object.entries(PANELS).map(([name, text]) => make("button", { role: "tab", type: "button", id: `${side}-${name}`, "aria-controls": name, on: { click: () => pick(name, side) } }, text));
+  room.append(...tabs);
+  room.addEventListener("keydown", (event) => {
+    const step = { ArrowRight: 1, ArrowLeft: -1 }[event.key];
+    if (!step) return;
+    const next = tabs[(tabs.indexOf(document.activeElement) + step + tabs.length) % tabs.length];
+    next.focus();
+    next.click();
+  });
+}
+
+function pick(name, side) {
+  if (state[side] !== name) put(name, side);
+}
+
 const placeOf = (name) => (state.left === name ? "left" : state.right === name ? "right" : "below");
 
 function apply() {
@@ -57,6 +75,11 @@ function apply() {
     const enlarge = panel.querySelector(".enlarge");
     enlarge.textContent = whole === name ? "Back" : "Enlarge";
     enlarge.setAttribute("aria-label", whole === name ? `${PANELS[name]} back to its place` : `${PANELS[name]} as large as the window`);
+  }
+  for (const one of document.querySelectorAll(".panels > button")) {
+    const chosen = one.id === `${one.parentElement.dataset.side}-${state[one.parentElement.dataset.side]}`;
+    one.setAttribute("aria-selected", String(chosen));
+    one.tabIndex = chosen ? 0 : -1;
   }
   document.body.classList.toggle("enlarged", whole !== null);
   at("splitter").setAttribute("aria-valuenow", String(Math.round(state.split)));
@@ -146,6 +169,7 @@ function splits() {
 export function start() {
   read();
   Object.keys(PANELS).forEach(buttons);
+  for (const side of ["left", "right"]) tabsOf(side);
   splits();
   document.addEventListener("keydown", (event) => {
     if (event.key !== "Escape" || whole === null || event.target.matches("input, select, textarea") || document.querySelector("dialog[open]")) return;

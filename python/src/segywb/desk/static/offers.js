@@ -20,13 +20,13 @@ function bytesOf(field) {
   return first ? [240 * Number(extension || 0) + Number(first), 240 * Number(extension || 0) + Number(first) + Number(size)] : null;
 }
 
-// Whether two fields may share bytes, as far as the page knows: to swap these would destroy them.
+// Whether two fields may share bytes, as far as the page knows: of these the second number would be written over the first.
 function overlap(one, other) {
   const [left, right] = [bytesOf(one), bytesOf(other)];
   return !left || !right || (left[0] < right[1] && right[0] < left[1]);
 }
 
-// The lines of a repair of these runs of traces. Two fields are swapped by their sum: where that does not fit the program refuses all of it.
+// The lines of a repair of these runs of traces.
 export function linesOf(what, field, value, step, formula) {
   const made = [];
   let at = BigInt(0);
@@ -35,7 +35,7 @@ export function linesOf(what, field, value, step, formula) {
     const set = first === last ? `set ${first}` : `set ${first} ${last}`;
     if (what === "renumber") made.push(`renumber ${first} ${last} ${field} ${value + step * at} ${step}`);
     if (what === "compute") made.push(`compute ${first} ${last} ${field} ${formula}`);
-    if (what === "swap") made.push(...[[field, field, "+"], [formula, field, "-"], [field, field, "-"]].map(([to, from, sign]) => `compute ${first} ${last} ${to} ${from} ${sign} ${formula}`));
+    if (what === "swap") made.push(`swap ${first} ${last} ${field} ${formula}`);
     if (what === "set") made.push(`${set} ${field} ${value}`);
     at += size;
   }
@@ -57,7 +57,7 @@ export function conditionOf({ ask: asked, query }) {
 // The same repair as one line: all traces that meet the condition.
 function foundLines(what, field, value, step, formula) {
   const [among, text] = conditionOf(source);
-  const words = { set: `set ${among} ${field} ${value}`, renumber: `renumber ${among} ${field} ${value} ${step}`, compute: `compute ${among} ${field} ${formula}`, delete: `delete ${among}` }[what];
+  const words = { set: `set ${among} ${field} ${value}`, renumber: `renumber ${among} ${field} ${value} ${step}`, compute: `compute ${among} ${field} ${formula}`, swap: `swap ${among} ${field} ${formula}`, delete: `delete ${among}` }[what];
   return [`${words} where ${text}`];
 }
 
@@ -79,7 +79,7 @@ export function offer(from, got) {
     return;
   }
   const found = make("input", { type: "checkbox", id: "offer-found", checked: !got.all, disabled: !got.all });
-  const what = make("select", { "aria-label": "what to do", id: "offer-what" }, ...["renumber", "set", "compute", ...(got.all ? ["swap"] : []), "delete"].map((one) => make("option", {}, one)));
+  const what = make("select", { "aria-label": "what to do", id: "offer-what" }, ...["renumber", "set", "compute", "swap", "delete"].map((one) => make("option", {}, one)));
   const field = make("input", { "aria-label": "field", id: "offer-field", list: "offer-fields", size: "14", spellcheck: "false", value: from.field });
   const value = make("input", { "aria-label": "first number", id: "offer-value", size: "9", value: String(from.value) });
   const step = make("input", { "aria-label": "step", id: "offer-step", size: "5", value: "0" });
@@ -93,9 +93,9 @@ export function offer(from, got) {
     make("strong", { id: "offer-count" }, many(count, "trace")), what, parts, fields, make("label", { title: "One line for all traces that meet the condition, in place of one for each run of them" }, found, " apply to all found (where ..)"), run,
     make("button", { type: "button", on: { click: () => goTo(runs[0][0]) } }, "Show in the table"), close());
   const made = () => {
-    const linesFor = found.checked && what.value !== "swap" ? foundLines : linesOf;
+    const linesFor = found.checked ? foundLines : linesOf;
     const both = [field, other].map((one) => one.value.trim());
-    if (what.value === "swap") return !overlap(...both) ? linesOf("swap", both[0], 0, 0, both[1]) : null;
+    if (what.value === "swap") return !overlap(...both) ? linesFor("swap", both[0], 0, 0, both[1]) : null;
     if (what.value === "compute") return formula.value.trim() && !/[\r\n]/.test(formula.value) ? linesFor("compute", field.value.trim(), 0, 0, formula.value.trim()) : null;
     try {
       return linesFor(what.value, field.value.trim(), BigInt(value.value.trim() || "0"), BigInt(step.value.trim() || "0"));
@@ -105,7 +105,6 @@ export function offer(from, got) {
   };
   preview = () => {
     parts.hidden = what.value === "delete";
-    found.parentElement.hidden = what.value === "swap";
     value.parentElement.hidden = what.value === "compute" || what.value === "swap";
     other.parentElement.hidden = what.value !== "swap";
     step.parentElement.hidden = what.value !== "renumber";

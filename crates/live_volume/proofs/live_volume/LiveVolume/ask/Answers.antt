@@ -147,3 +147,9 @@ invariant_of-self-in-Extremes c = held_again c.self.inside c.extremes_answer.new
 
 pub returns-in-Extremes-clause-unchanged : goal.returns-in-Extremes-clause-unchanged
 returns-in-Extremes-clause-unchanged c = rw (← c.self.view_is) (looked_at c.self.inside c.extremes_answer.new.overlay _ c.extremes_answer.ensures.seen).state
+
+pub returns-in-OfChosen-clause-reply : goal.returns-in-OfChosen-clause-reply
+returns-in-OfChosen-clause-reply c = λ sure.
+    let before : IsTrue c.self.inside.overlay.agreed = c.chosen_answer.ensures.seen.agreed sure in
+    let records : AreRecordsOf c.args.self.now.state (records_in c.self.inside) = rw (← c.self.view_is) (c.self.invariant.records before) in
+    subst (λ (q : Query). IsReply c.args.self.now.state q c.chosen_answer.result) (sym c.in-OfChosen.is) (c.chosen_answer.ensures.reply c.args.self.now.state (sym (ap (λ (t : Session). t.state.volume) c.self.view_is)) (sym (ap (λ (t : Session). t.state.fields) c.self.view_is)) (sym (ap (λ (t : Session). t.state.on_disk) c.self.view_is)) sure records)

@@ -67,12 +67,12 @@ put_each-requires-clause-parts c = λ sure.
     let f = (laid c sure).fits in
     rw (c.computed.ensures.seen.state) (record {
       some = f.some;
-      small = f.small;
       exact = f.exact;
       last = f.last;
       traces = (c.stands.ensures.cut (c.computed.ensures.seen.agreed sure)).parts.traces;
       front = f.front;
       whole = f.whole;
+      kept = f.kept;
     })
 
 pub put_each-requires-clause-cut : goal.put_each-requires-clause-cut

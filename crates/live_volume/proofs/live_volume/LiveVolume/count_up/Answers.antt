@@ -87,12 +87,12 @@ pub put_each-requires-clause-parts : goal.put_each-requires-clause-parts
 put_each-requires-clause-parts c =
     rw (← c.self.view_is) (λ sure. let f = fit c sure in record {
       some = f.some;
-      small = f.small;
       exact = f.exact;
       last = f.last;
       traces = (c.self.invariant.cut sure).parts.traces;
       front = f.front;
       whole = f.whole;
+      kept = f.kept;
     })
 
 pub put_each-requires-clause-cut : goal.put_each-requires-clause-cut

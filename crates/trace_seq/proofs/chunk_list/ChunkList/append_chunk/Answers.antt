@@ -24,7 +24,7 @@ returns-clause-whole c =
     let empty = empty-last c.args.self.now.spares.items c.take_spare-fresh.new.spares.items c.take_spare-fresh.result c.take_spare-fresh.ensures.items c.requires.whole.sound.empty in
     let one = alone c.take_spare-fresh.result.ids.items c.insert.new.self.ids.items c.args.id empty.0 c.insert.ensures.ids in
     record {
-      sound = rw c.push_within.ensures.items (append-at cs c.take_spare-fresh.result c.insert.new.self c.args.self.now.spares.items c.take_spare-fresh.new.spares.items c.args.self.now.home.items c.args.id c.requires.whole.sound c.take_spare-fresh.ensures.items (last_size-all cs c.requires.full) c.requires.below c.requires.absent c.insert.ensures.key one c.insert.ensures.room);
+      sound = rw c.push_within.ensures.items (append-at cs c.take_spare-fresh.result c.insert.new.self c.args.self.now.spares.items c.take_spare-fresh.new.spares.items c.args.id c.requires.whole.sound c.take_spare-fresh.ensures.items (last_size-all cs c.requires.full) one c.insert.ensures.room);
       chunk_room = omega (arith, c.requires.whole.chunk_room, ap length c.take_spare-fresh.ensures.items, length-append c.take_spare-fresh.new.spares.items (c.take_spare-fresh.result ∷ []), ap length c.push_within.ensures.items, length-append cs (c.insert.new.self ∷ []), c.push_within.ensures.capacity);
       spare_room = omega (arith, c.requires.whole.spare_room, ap length c.take_spare-fresh.ensures.items, length-append c.take_spare-fresh.new.spares.items (c.take_spare-fresh.result ∷ []), ap length c.push_within.ensures.items, length-append cs (c.insert.new.self ∷ []), c.take_spare-fresh.ensures.capacity);
       count = omega (arith, c.requires.whole.count, ap length (returns-clause-ids c), length-append (ids_of cs) (c.args.id ∷ []));

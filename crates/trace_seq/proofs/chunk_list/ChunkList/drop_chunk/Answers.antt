@@ -20,7 +20,7 @@ returns-clause-whole c =
     let ids = drop-ids cs c.args.k c.remove-chunk.result c.remove.new.self c.requires.chunk c.remove-chunk.ensures.value c.requires.alone c.remove.ensures.ids none in
     let inside : length (ids_of (take c.args.k cs)) < length (ids_of cs) = omega (arith, place-inside cs c.args.k 0 (omega (arith, c.requires.alone))) in
     record {
-      sound = rw (c.remove-chunk.ensures.items, c.push_within.ensures.items) (drop-at cs c.args.k c.remove-chunk.result c.remove.new.self c.args.self.now.spares.items c.args.self.now.home.items c.requires.chunk c.remove-chunk.ensures.value c.requires.whole.sound c.requires.alone c.remove.ensures.key none c.remove.ensures.room);
+      sound = rw (c.remove-chunk.ensures.items, c.push_within.ensures.items) (drop-at cs c.args.k c.remove-chunk.result c.remove.new.self c.args.self.now.spares.items c.requires.chunk c.remove-chunk.ensures.value c.requires.whole.sound c.requires.alone none c.remove.ensures.room);
       chunk_room = omega (arith, c.requires.whole.chunk_room, ap length c.push_within.ensures.items, length-append c.args.self.now.spares.items (c.remove.new.self ∷ []));
       spare_room = omega (arith, c.requires.whole.spare_room, ap length c.push_within.ensures.items, length-append c.args.self.now.spares.items (c.remove.new.self ∷ []));
       count = rw (c.remove-chunk.ensures.items, ids) (omega (arith, c.requires.whole.count, length-remove (ids_of cs) (length (ids_of (take c.args.k cs))) inside));

@@ -3,7 +3,6 @@ use Rattle.std.specs.List.{remove}
 use Rattle.std.proofs.lemmas.List.{length-set}
 use Rattle.std.proofs.lemmas.List.Edits.{get_or-remove_below}
 use Rattle.trace_seq.specs.declared.chunk.Chunk.{Chunk}
-use Rattle.trace_seq.specs.Order.{times}
 use Rattle.trace_seq.specs.Chunks.{ids_of, size_at}
 use Rattle.trace_seq.proofs.ChunkIdLemmas.{size-set, size-read, join-ids}
 use Rattle.trace_seq.proofs.SoundLemmas.{join-at}
@@ -31,14 +30,11 @@ returns-clause-whole c =
     let first = read-first cs c.remove-next.new.self.items c.args.k c.index_mut-chunk.result.now c.requires.chunk c.remove-next.ensures.items c.index_mut-chunk.ensures.value in
     let second = read-second cs c.args.k c.remove-next.result c.remove-next.ensures.value in
     let short : suc c.args.k < length cs = omega (arith, c.requires.chunk) in
-    let moved = ap (λ (l : List ℕ). l) c.deref.ensures.value in
     let fits : size_at cs c.args.k + size_at cs (suc c.args.k) ≤ 512 = omega (arith, c.requires.fits, ap (size_at cs) (add-one c.args.k)) in
     let whole = kept-set cs c.remove-next.new.self.items c.args.k c.join.new.self c.remove-next.ensures.items in
     record {
-      sound = rw (whole, c.push_within.ensures.items) (join-at cs c.args.k c.index_mut-chunk.result.now c.remove-next.result c.join.new.self c.join.new.next spares c.args.self.now.home.items c.point.new.home.items short first second c.requires.whole.sound fits c.point.ensures.length
-          (λ id held. c.point.ensures.keys id (omega (arith, held, ap (times id) moved)))
-          (λ id absent. c.point.ensures.others id (omega (arith, absent, ap (times id) moved)))
-          c.join.ensures.key c.join.ensures.ids c.join.ensures.room c.join.ensures.next_key c.join.ensures.next_ids c.join.ensures.next_room);
+      sound = rw (whole, c.push_within.ensures.items) (join-at cs c.args.k c.index_mut-chunk.result.now c.remove-next.result c.join.new.self c.join.new.next spares short first second c.requires.whole.sound fits
+          c.join.ensures.ids c.join.ensures.room c.join.ensures.next_ids c.join.ensures.next_room);
       chunk_room = omega (arith, c.requires.whole.chunk_room, ap length c.push_within.ensures.items, length-append spares (c.join.new.next ∷ []), length-set c.remove-next.new.self.items c.args.k c.join.new.self);
       spare_room = omega (arith, c.requires.whole.spare_room, ap length c.push_within.ensures.items, length-append spares (c.join.new.next ∷ []), length-set c.remove-next.new.self.items c.args.k c.join.new.self);
       count = rw (whole, join-ids cs c.args.k c.index_mut-chunk.result.now c.remove-next.result c.join.new.self short first second c.join.ensures.ids) c.requires.whole.count;

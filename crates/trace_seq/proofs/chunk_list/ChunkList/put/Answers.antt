@@ -1,4 +1,4 @@
-use Rattle.std.proofs.Common.{arith, ℕ, ◌+◌, ◌<◌, ◌≤◌, List, length, take, ap}
+use Rattle.std.proofs.Common.{arith, ℕ, ◌+◌, ◌≤◌, List, length, take, ap}
 use Rattle.std.proofs.lemmas.List.{length-set}
 use Rattle.std.proofs.lemmas.List.Edits.{length-insert}
 use Rattle.trace_seq.specs.Chunks.{ids_of, size}
@@ -18,7 +18,7 @@ returns-clause-whole c =
     let cs = c.args.self.now.chunks.items in
     let ids = put-ids cs c.args.spot.chunk c.index_mut-chunk.result.now c.insert.new.self c.args.spot.offset c.args.id c.requires.chunk c.index_mut-chunk.ensures.value c.requires.offset c.insert.ensures.ids in
     record {
-      sound = put-at cs c.args.spot.chunk c.index_mut-chunk.result.now c.insert.new.self c.args.self.now.spares.items c.args.self.now.home.items c.args.spot.offset c.args.id c.requires.chunk c.index_mut-chunk.ensures.value c.requires.whole.sound c.requires.offset c.requires.room c.requires.below c.requires.absent c.insert.ensures.key c.insert.ensures.ids c.insert.ensures.room;
+      sound = put-at cs c.args.spot.chunk c.index_mut-chunk.result.now c.insert.new.self c.args.self.now.spares.items c.args.spot.offset c.args.id c.requires.chunk c.index_mut-chunk.ensures.value c.requires.whole.sound c.requires.offset c.requires.room c.insert.ensures.ids c.insert.ensures.room;
       chunk_room = omega (arith, c.requires.whole.chunk_room, length-set cs c.args.spot.chunk c.insert.new.self);
       spare_room = omega (arith, c.requires.whole.spare_room, length-set cs c.args.spot.chunk c.insert.new.self);
       count = rw ids (omega (arith, c.requires.whole.count, length-insert (ids_of cs) (length (ids_of (take c.args.spot.chunk cs)) + c.args.spot.offset) c.args.id (place-within cs c.args.spot.chunk c.args.spot.offset c.requires.offset)));

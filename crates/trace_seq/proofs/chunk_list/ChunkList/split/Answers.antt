@@ -1,12 +1,10 @@
-use Rattle.std.proofs.Common.{arith, ◌≡◌, ◌+◌, ◌<◌, ◌∷◌, [], ℕ, suc, List, length, set, drop, ap, ◌∙◌, add-one, length-append}
+use Rattle.std.proofs.Common.{arith, ◌≡◌, ◌+◌, ◌∷◌, [], ℕ, suc, List, length, set, ap, ◌∙◌, add-one, length-append}
 use Rattle.std.specs.List.{insert}
 use Rattle.std.proofs.lemmas.List.{length-set, length-take-le, length-drop}
 use Rattle.std.proofs.lemmas.List.Edits.{length-insert}
 use Rattle.trace_seq.specs.declared.chunk.Chunk.{Chunk}
-use Rattle.trace_seq.specs.Order.{times}
 use Rattle.trace_seq.specs.Chunks.{ids_of}
-use Rattle.trace_seq.proofs.TimeLemmas.{times-cut}
-use Rattle.trace_seq.proofs.ChunkIdLemmas.{size-read, split-ids, split-take, split-first, split-second, home-at}
+use Rattle.trace_seq.proofs.ChunkIdLemmas.{size-read, split-ids, split-take, split-first, split-second}
 use Rattle.trace_seq.proofs.SoundLemmas.{split-at, empty-last}
 use Rattle.trace_seq.proofs.chunk_list.ChunkList.split.Goals as goal
 
@@ -23,22 +21,12 @@ halve-requires-clause-empty c = (empty-last c.args.self.now.spares.items c.take_
 pub halve-requires-clause-fresh_room : goal.halve-requires-clause-fresh_room
 halve-requires-clause-fresh_room c = (empty-last c.args.self.now.spares.items c.take_spare-fresh.new.spares.items c.take_spare-fresh.result c.take_spare-fresh.ensures.items c.requires.whole.sound.empty).1
 
-pub point-requires : goal.point-requires
-point-requires c = λ id held.
-    let old = c.index_mut-chunk.result.now in
-    let in-half : 0 < times id (drop 256 old.ids.items) = omega (arith, held, ap (times id) c.deref.ensures.value, ap (times id) c.halve.ensures.fresh_ids) in
-    (home-at c.args.self.now.home.items c.args.self.now.chunks.items c.args.k old c.requires.chunk c.index_mut-chunk.ensures.value c.requires.whole.sound.homes id (omega (arith, in-half, times-cut id old.ids.items 256))).0
-
 pub returns-clause-whole : goal.returns-clause-whole
 returns-clause-whole c =
     let cs = c.args.self.now.chunks.items in
     let made = halved cs c.insert_within.new.list.items c.args.k c.halve.new.self c.halve.new.fresh c.insert_within.ensures.items in
-    let moved = ap (λ (l : List ℕ). l) c.deref.ensures.value in
     record {
-      sound = rw made (split-at cs c.args.k c.index_mut-chunk.result.now c.halve.new.self c.halve.new.fresh c.take_spare-fresh.result c.args.self.now.spares.items c.take_spare-fresh.new.spares.items c.args.self.now.home.items c.point.new.home.items c.requires.chunk c.index_mut-chunk.ensures.value c.requires.whole.sound c.take_spare-fresh.ensures.items c.requires.full c.point.ensures.length
-          (λ id held. c.point.ensures.keys id (omega (arith, held, ap (times id) moved)))
-          (λ id absent. c.point.ensures.others id (omega (arith, absent, ap (times id) moved)))
-          c.halve.ensures.key c.halve.ensures.ids c.halve.ensures.room c.halve.ensures.fresh_key c.halve.ensures.fresh_ids c.halve.ensures.fresh_room);
+      sound = rw made (split-at cs c.args.k c.index_mut-chunk.result.now c.halve.new.self c.halve.new.fresh c.take_spare-fresh.result c.args.self.now.spares.items c.take_spare-fresh.new.spares.items c.requires.chunk c.index_mut-chunk.ensures.value c.requires.whole.sound c.take_spare-fresh.ensures.items c.requires.full c.halve.ensures.ids c.halve.ensures.room c.halve.ensures.fresh_ids c.halve.ensures.fresh_room);
       chunk_room = omega (arith, c.requires.whole.chunk_room, ap length c.take_spare-fresh.ensures.items, length-append c.take_spare-fresh.new.spares.items (c.take_spare-fresh.result ∷ []), ap length c.insert_within.ensures.items, length-insert (set cs c.args.k c.halve.new.self) (c.args.k + 1) c.halve.new.fresh (omega (arith, c.requires.chunk, length-set cs c.args.k c.halve.new.self)), length-set cs c.args.k c.halve.new.self, c.insert_within.ensures.capacity);
       spare_room = omega (arith, c.requires.whole.spare_room, ap length c.take_spare-fresh.ensures.items, length-append c.take_spare-fresh.new.spares.items (c.take_spare-fresh.result ∷ []), ap length c.insert_within.ensures.items, length-insert (set cs c.args.k c.halve.new.self) (c.args.k + 1) c.halve.new.fresh (omega (arith, c.requires.chunk, length-set cs c.args.k c.halve.new.self)), length-set cs c.args.k c.halve.new.self, c.take_spare-fresh.ensures.capacity);
       count = rw (made, split-ids cs c.args.k c.index_mut-chunk.result.now c.halve.new.self c.halve.new.fresh c.requires.chunk c.index_mut-chunk.ensures.value c.halve.ensures.ids c.halve.ensures.fresh_ids) c.requires.whole.count;

@@ -1,4 +1,4 @@
-use Rattle.std.proofs.Common.{arith, ℕ, ◌+◌, ◌<◌, ◌≤◌, List, length, take, ap}
+use Rattle.std.proofs.Common.{arith, ℕ, ◌+◌, ◌<◌, List, length, take, ap}
 use Rattle.std.proofs.lemmas.List.{length-set}
 use Rattle.std.proofs.lemmas.List.Edits.{length-remove}
 use Rattle.trace_seq.specs.Chunks.{ids_of, size}
@@ -18,7 +18,7 @@ returns-clause-whole c =
     let cs = c.args.self.now.chunks.items in
     let ids = take-ids cs c.args.spot.chunk c.index_mut-chunk.result.now c.remove.new.self c.args.spot.offset c.requires.chunk c.index_mut-chunk.ensures.value c.requires.offset c.remove.ensures.ids in
     record {
-      sound = take-at cs c.args.spot.chunk c.index_mut-chunk.result.now c.remove.new.self c.args.self.now.spares.items c.args.self.now.home.items c.args.spot.offset c.requires.chunk c.index_mut-chunk.ensures.value c.requires.whole.sound c.requires.offset c.requires.others c.requires.front c.requires.back c.remove.ensures.key c.remove.ensures.ids c.remove.ensures.room;
+      sound = take-at cs c.args.spot.chunk c.index_mut-chunk.result.now c.remove.new.self c.args.self.now.spares.items c.args.spot.offset c.requires.chunk c.index_mut-chunk.ensures.value c.requires.whole.sound c.requires.offset c.requires.others c.requires.front c.requires.back c.remove.ensures.ids c.remove.ensures.room;
       chunk_room = omega (arith, c.requires.whole.chunk_room, length-set cs c.args.spot.chunk c.remove.new.self);
       spare_room = omega (arith, c.requires.whole.spare_room, length-set cs c.args.spot.chunk c.remove.new.self);
       count = rw ids (omega (arith, c.requires.whole.count, length-remove (ids_of cs) (length (ids_of (take c.args.spot.chunk cs)) + c.args.spot.offset) (place-inside cs c.args.spot.chunk c.args.spot.offset c.requires.offset)));

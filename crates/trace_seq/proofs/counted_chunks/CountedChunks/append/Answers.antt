@@ -1,5 +1,4 @@
-use Rattle.std.proofs.Common.{arith, length}
-use Rattle.trace_seq.specs.Fronts.{groups_of}
+use Rattle.std.proofs.Common.{arith}
 use Rattle.trace_seq.proofs.FrontLemmas.{fronts-kept}
 use Rattle.trace_seq.proofs.counted_chunks.CountedChunks.append.Goals as goal
 

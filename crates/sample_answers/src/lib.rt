@@ -1,0 +1,14 @@
+//! What the samples of listed traces of a volume under edits say: of each trace the least, the
+//! greatest and the sum of its samples, how many there are, how many are 0, and of floats how many
+//! are no number.
+//!
+//! Traces count from 1. `stats_among` looks once at each trace, and leaves the volume and what is
+//! prepared as they are. It takes memory in step with its answer, and is refused for want of it,
+//! E11. Where the bytes of the volume are on disk, it is also refused where a trace could not be
+//! read, E14 or E15, and what it says holds if each read since the load agreed.
+#![tactic(auto)]
+
+mod among;
+mod of_trace;
+
+pub use crate::among::stats_among;

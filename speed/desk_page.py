@@ -1,5 +1,10 @@
-"""Measures the desk on a file, in a browser. Each line tells the middle one of its times and the longest."""
+"""Measures the desk on a file, in a browser. Each line tells the middle one of its times and the longest.
 
+Of sections stand the milliseconds of processors beside these, of the desk, its programs and the browser: on a machine that others use they
+tell more, and they are more than the time where several of these work at once.
+"""
+
+import os
 import statistics
 import subprocess
 import sys
@@ -32,7 +37,7 @@ look();
 """
 
 
-# Changes a field of the section: milliseconds until a first look at it is drawn, and until all of it is.
+# Changes a field of the section: milliseconds until a first look at it is drawn.
 DRAWN = """
 const [id, value, done] = arguments;
 const field = document.getElementById(id);
@@ -40,16 +45,26 @@ const paper = document.getElementById("section-canvas");
 const before = paper.shown;
 const frames = Number(document.body.dataset.sectionFrames || 0);
 const start = performance.now();
-let first = null;
 field.value = value;
 field.dispatchEvent(new Event("change"));
 const look = () => {
   const said = document.getElementById("section-said").textContent;
   const now = performance.now() - start;
   const drawn = paper.shown !== before && Number(document.body.dataset.sectionFrames) > frames;
-  if (drawn && first === null) first = now;
-  if (said || now > 60000) done([null, null, said || "too long"]);
-  else if (drawn && paper.shown.told.read === 1) done([first, now, ""]);
+  if (said || now > 60000) done([null, said || "too long"]);
+  else if (drawn) {
+    window.asked = start;
+    done([now, ""]);
+  } else requestAnimationFrame(look);
+};
+look();
+"""
+# Milliseconds until all of it is.
+WHOLE = """
+const [done] = arguments;
+const look = () => {
+  const now = performance.now() - window.asked;
+  if (now > 90000 || document.getElementById("section-canvas").shown.told.read === 1) done(now);
   else requestAnimationFrame(look);
 };
 look();
@@ -107,10 +122,30 @@ def wait(question, seconds=300.0):
     raise SystemExit("desk: took too long")
 
 
-def told(name, numbers, limit):
-    """A line of the answer."""
+def told(name, numbers, limit, worked=()):
+    """A line of the answer. ``worked`` has for each of the numbers what processors worked at it: those of the desk, of its programs, of the browser."""
     middle, most = statistics.median(numbers), max(numbers)
-    print(f"{name:44s} {middle:8.0f} ms  at most {most:6.0f} ms  ({'within' if most <= limit else 'over'} {limit} ms)", flush=True)
+    more = " + ".join(f"{statistics.median(one):.0f}" for one in zip(*worked))
+    print(f"{name:44s} {middle:8.0f} ms  at most {most:6.0f} ms  ({'within' if most <= limit else 'over'} {limit} ms){'; of processors ' + more + ' ms' if more else ''}", flush=True)
+
+
+def spent(desk):
+    """Milliseconds of processors that the desk, its programs and the browser have worked."""
+    tick, found = 1000 / os.sysconf("SC_CLK_TCK"), {}
+    for one in filter(str.isdigit, os.listdir("/proc")):
+        try:
+            with open(f"/proc/{one}/stat", encoding="utf-8", errors="replace") as file:
+                words = file.read().rsplit(")", 1)[1].split()
+        except OSError:
+            continue
+        found[int(one)] = (int(words[1]), tick * (int(words[11]) + int(words[12])), tick * (int(words[13]) + int(words[14])))
+    programs = found[desk.pid][2] + sum(own for parent, own, _ in found.values() if parent == desk.pid)
+    ours: set = set()
+    more = {os.getpid()}
+    while more:  # the browser's processes are those below this one, but for the desk
+        more = {one for one, (parent, _, _) in found.items() if parent in more and one != desk.pid}
+        ours |= more
+    return found[desk.pid][1], programs, sum(found[one][1] for one in ours)
 
 
 def measured(browser, line, edits, count=TIMES):
@@ -125,15 +160,20 @@ def measured(browser, line, edits, count=TIMES):
     return [one for one, _ in found], [one for _, one in found]
 
 
-def drawn(browser, id, value):
-    """The times from a change of a field of the section to a first look at it, and to all of it."""
-    first, whole, why = browser.execute_async_script(DRAWN, id, value)
-    if first is None:
-        raise SystemExit(f"desk: section, {id} {value}: {why}")
-    return first, whole
+class Drawn:
+    """A change of a field of the section: the times to a first look at it, and to all of it, with what processors worked until then."""
+
+    def __init__(self, browser, desk, id, value):
+        before = spent(desk)
+        self.first, why = browser.execute_async_script(DRAWN, id, value)
+        if self.first is None:
+            raise SystemExit(f"desk: section, {id} {value}: {why}")
+        self.first_spent = [after - one for after, one in zip(spent(desk), before)]
+        self.whole = browser.execute_async_script(WHOLE)
+        self.whole_spent = [after - one for after, one in zip(spent(desk), before)]
 
 
-def sections(browser):
+def sections(browser, desk):
     """The panel of sections: lines that were not read yet, the same again under other gains, and the zoom."""
     browser.execute_script("document.querySelector('#section .to-left').click()")
     wait(lambda: browser.execute_script("return document.body.dataset.sectionVersion || null"))
@@ -142,21 +182,23 @@ def sections(browser):
         "const { whole, samples } = document.getElementById('section-canvas').shown.told; return [whole, samples]"
     )
     if browser.execute_script("return document.getElementById('section-of').value") == "traces":  # a line without bins
-        times = [drawn(browser, "section-last", str(size[0] - at)) for at in range(1, 1 + TIMES)]
+        times = [Drawn(browser, desk, "section-last", str(size[0] - at)) for at in range(1, 1 + TIMES)]
     else:
-        times = [drawn(browser, "section-value", str(at)) for at in range(2, 2 + TIMES)]
-    told("section of {:,} traces by {:,}, a first look".format(*size), [one for one, _ in times], 300)
-    told("all of it", [one for _, one in times], 2000)
-    gains = [drawn(browser, "section-balance", one)[1] for one in ("trace", "none", "trace", "none")]
-    told("the same under another gain", gains, 300)
+        times = [Drawn(browser, desk, "section-value", str(at)) for at in range(2, 2 + TIMES)]
+    told("section of {:,} traces by {:,}, a first look".format(*size), [one.first for one in times], 300, [one.first_spent for one in times])
+    told("all of it", [one.whole for one in times], 2000, [one.whole_spent for one in times])
+    gains = [Drawn(browser, desk, "section-balance", one) for one in ("trace", "none", "trace", "none")]
+    told("the same under another gain", [one.whole for one in gains], 300, [one.whole_spent for one in gains])
     browser.execute_script("document.getElementById('section-balance').value = 'agc'")
-    told("the same under an AGC", [drawn(browser, "section-percentile", str(at))[1] for at in (97, 96, 95)], 300)
+    agc = [Drawn(browser, desk, "section-percentile", str(at)) for at in (97, 96, 95)]
+    told("the same under an AGC", [one.whole for one in agc], 300, [one.whole_spent for one in agc])
     for style in ("density", "wiggles", "both"):
-        drawn(browser, "section-style", style)
+        Drawn(browser, desk, "section-style", style)
         time.sleep(0.5)
+        before = spent(desk)[2]
         rates = [browser.execute_async_script(TURNED, 120) for _ in range(3)]
-        rate = statistics.median([one for one, _ in rates])
-        print(f"{'zoom by the wheel, ' + style:44s} {rate:8.0f} pictures a second, at most {max(one for _, one in rates):.0f} ms between two  ({'within' if rate >= 30 else 'over'} 30)", flush=True)
+        rate, work = statistics.median([one for one, _ in rates]), (spent(desk)[2] - before) / 360
+        print(f"{'zoom by the wheel, ' + style:44s} {rate:8.0f} pictures a second, at most {max(one for _, one in rates):.0f} ms between two  ({'within' if rate >= 30 else 'over'} 30); of processors {work:.0f} ms a picture in the browser", flush=True)
     browser.execute_script("document.querySelector('#maps .to-left').click()")
 
 
@@ -196,7 +238,7 @@ def main(path):
             told(f"{line}, to the map", maps, 500)
         wait(lambda: browser.execute_script(READY))
         graphs(browser, int(browser.execute_script("return document.getElementById('first').max")))
-        sections(browser)
+        sections(browser, desk)
     finally:
         browser.quit()
         desk.terminate()

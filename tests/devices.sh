@@ -143,7 +143,7 @@ on=("$program" s.sgy --script script --out o.sgy)
 # ---- the answers: to each line of a long script, and to a list that is longer than the program's buffers
 for _ in 1 2 3; do
     printf '%s\n' info count 'map mine @17:4' 'set 2 mine 7' 'get 2 mine' 'set 4 inline 7' fields 'copy 1 2' grid 'patch 2 0 7 8' 'slice 1' 'move 4 1' 'move 2 3 1' 'map shot' 'map usual'
-    printf '%s\n' 'table 1 3 inline x' 'find 1 3 crossline 22 30' 'extremes 1 2' 'lines 0' 'table 1 9 inline' 'compute 1 3 offset inline * 2' 'compute 1 3 offset 7 / delay' 'sort 1 3 -crossline' 'sort 1 3 nine' 'count all where inline = 10' 'set all @5:4 7 where crossline > 21' 'table all inline where crossline > 99'
+    printf '%s\n' 'table 1 3 inline x' 'find 1 3 crossline 22 30' 'extremes 1 2' 'lines 0' 'table 1 9 inline' 'compute 1 3 offset inline * 2' 'compute 1 3 offset 7 / delay' 'sort 1 3 -crossline' 'sort 1 3 nine' 'fill all 1 1 -7 where crossline > 21' 'fill 1 3 0 9 1' 'count all where inline = 10' 'set all @5:4 7 where crossline > 21' 'table all inline where crossline > 99' 'stats all'
     printf '%s\n' 'line 0 1' sett 'text 1 C LINE' 'line 0 1' 'unmap mine' 'get 2 mine' 'drop tail' 'drop head' drop 'blank 2' faults histogram 'delete 2' 'delete 2' totals 'range x'
 done > long
 echo 'header 2' >> long
@@ -159,7 +159,7 @@ done
 sweep 'a write of the answers is interrupted at' 0 20 saves o.sgy may whole 1 long.txt - long.sgy -- $library DEVICE=answers HOLDS=% FAULT=$EINTR "$program" s.sgy --script long --out o.sgy
 # and to lines about floats
 float_line f.sgy little 6 2 3fb999999999999a,c05da80000000000 7ff8000000000000,fff0000000000000 8000000000000000,0000000000000001
-printf '%s\n' 'sample 1 0' 'stat 1' 'stat 2' totals 'slice 0' 'slice 1' 'patch 1 0 1e-5 nan' 'patch 1 0 1e999' 'patch 1 0 +1' 'stat 1' 'slice 1' 'resize 1 3' 'sample 3 1' 'delete 3' totals 'delete 1' 'stat 1' totals > floats
+printf '%s\n' 'sample 1 0' 'stat 1' 'stat 2' totals 'slice 0' 'slice 1' 'patch 1 0 1e-5 nan' 'patch 1 0 1e999' 'patch 1 0 +1' 'stat 1' 'slice 1' 'resize 1 3' 'fill 1 2 0 1 -0.5' 'fill 1 2 1 1 1e999' 'sample 3 1' 'delete 3' totals 'delete 1' 'stat 1' totals > floats
 "$program" f.sgy --floats --script floats --out floats.sgy > floats.txt
 size=$(wc -c < floats.txt)
 lost=(saves o.sgy may lost 4 floats.txt:% '=segywb: answers failed' -)

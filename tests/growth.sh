@@ -86,6 +86,7 @@ for edit in 'set 2 @189:4 7' 'set 2 inline 11' 'set 2 crossline 5' 'set 2 offset
     'compute 1 3 inline crossline * 2 + 7' 'compute 2 3 @1:4 x / inline % 100' 'compute 1 3 crossline 5' 'sort 1 3 -crossline' 'sort 2 3 inline -@37:4' \
     'delete 1 2' 'delete all' 'delete all where crossline = 22' 'set all inline 7 where crossline > 21' 'set 1 3 @1:4 9 where @189:4 >= 10 and offset != 200' \
     'renumber all @5:4 5 3 where x > 1000' 'compute all crossline offset / 100 where inline = 10' 'compute 1 3 @1:4 x + y where 7 <= 7' 'delete 1 2 where inline = 11' \
+    'swap all inline crossline where offset > 100' 'fill all 0 1 -9' 'fill 1 2 1 1 300 where crossline >= 22' 'fill 2 3 1 0 5' \
     'map inline @193:4' 'map x @73:4' 'map scalar @69:2' 'map mine @17:4' 'map shot' 'map usual' 'bin interval 2000' 'bin @3217:2 2000' 'text 1 NO C'; do
     grows "$edit" s.sgy "$edit" "$edit" "${queries[@]}"
 done
@@ -94,7 +95,7 @@ grows 'names bound and left out' s.sgy 'map mine @189:4' 'set 2 mine 7' 'get 2 i
 # ---- each kind of query, twice
 for query in 'get 1 inline' 'getbin interval' 'get 1 @189:4' count info 'code 0' 'geometry 2' 'stat 2' 'sample 2 1' 'fold 10 21' 'range inline' totals \
     'line 0 1' stanzas fields grid inlines crosslines histogram 'slice 1' faults problems \
-    'count all where inline = 10' 'count 1 2 where @1:8 > 7 and inline != 10' 'table all inline where crossline > 21' 'find all offset 0 200 where crossline != 21' 'extremes all where crossline = 22' \
+    'count all where inline = 10' 'count 1 2 where @1:8 > 7 and inline != 10' 'table all inline where crossline > 21' 'find all offset 0 200 where crossline != 21' 'extremes all where crossline = 22' 'stats 1 2' 'stats all where crossline > 21' \
     'table 1 2 inline x @189:4' 'table 2 2 @1:8' 'find 1 2 crossline 21 22' 'find 1 2 @1:8 7 8' 'header 2' 'extremes 1 2' 'lines 0'; do
     grows "$query" s.sgy "$query" "$query" 'delete 1' "$query"
 done
@@ -104,7 +105,7 @@ done
 put twelve.sgy 3220 000c
 all=('patch 1 0 7' 'set 1 inline 7' 'text 1 C' 'copy 1 2' 'blank 1' 'move 1 2' 'delete 3' 'map mine @9:4' "${queries[@]}")
 grows 'header extensions' x.sgy 'header 1' 'table 1 1 @1.1:8u' 'find 1 1 @1.157:2u 0 9' 'extremes 1 1' 'set 1 @1.1:8 -1' 'map deep @1.9:4' 'set 1 deep 5' 'set 1 ext_count 1' "${all[@]}"
-grows 'header extensions by trace' deep.sgy 'set 1 @2.1:4 5' 'copy 1 1' 'set 2 @1.137:4u 2' "${all[@]}"
+grows 'header extensions by trace' deep.sgy 'set 1 @2.1:4 5' 'copy 1 1' 'set 2 @1.137:4u 2' 'blank 1' 'fill 1 2 1 1 7' "${all[@]}"
 grows 'extended textual headers' ended.sgy stanzas 'line 1 1' 'line 2 1' 'lines 1' 'lines 2' 'code 2' "${all[@]}"
 grows 'data trailer records' tail.sgy stanzas "${all[@]}"
 grows 'other numbers of samples' v.sgy 'slice 2' 'resize 2 4' 'slice 2' 'resize 2 4' 'resize 1 1' 'stat 1' 'resize 3 2' 'patch 2 3 -7' 'slice 1' totals 'get 2 @115:2'
@@ -243,7 +244,7 @@ for ((n = 0; n < 66; n++)); do all+=('move 1152 1' 'move 700 1'); done
 grows 'many moves' many.sgy "${all[@]}" 'fold 0 0' 'stat 1'
 
 # ---- each command that may want memory did
-for word in set renumber patch resize blank copy move map bin getbin get text unmap line stanzas fields grid inlines crosslines histogram slice faults problems table find header extremes lines compute sort; do
+for word in set renumber patch resize blank copy move map bin getbin get text unmap line stanzas fields grid inlines crosslines histogram slice faults problems table find header extremes lines compute sort swap fill stats; do
     if [ "${refused[$word]:-0}" -gt 0 ]; then tell "$word was refused for want of memory" ok; else tell "$word was refused for want of memory" never; fi
 done
 

@@ -31,7 +31,7 @@ printf '%s\n' count info 'get 2 inline' 'set 2 inline 7' 'get 2 inline' 'sample 
 for file in s.sgy x.sgy t.sgy v.sgy; do alike "every query of $file" $file; done
 printf '%s\n' 'blank 1' 'copy 2 1' 'delete 3' 'move 1 2' 'renumber 1 2 inline 100 5' 'compute 1 2 crossline inline * 2' 'map inline @189:4' 'resize 1 4' \
     'text 3 changed' 'bin interval 2000' 'sort 1 2 -inline' 'move 1 2 last' 'map shot' grid 'map usual' totals grid fields 'unmap inline' 'set all crossline 9 where inline > 100' 'renumber all @5:4 7 2 where crossline = 9' \
-    'compute all inline crossline + 1 where @5:4 > 7' 'delete all where inline = 10' grid faults problems 'delete 1 2' totals > script
+    'compute all inline crossline + 1 where @5:4 > 7' 'swap all inline offset where @5:4 > 7' 'fill all 0 1 -9 where @5:4 > 7' 'fill 1 last 1 1 7' 'stats all' 'slice 1' 'delete all where inline = 10' grid faults problems 'delete 1 2' totals > script
 for file in s.sgy x.sgy t.sgy v.sgy; do alike "edits of $file" $file; done
 alike 'a file with more header extensions' x.sgy --stop
 alike 'a file that is refused' script
@@ -172,6 +172,7 @@ meanwhile 'cut, and a slice' 'slice 0' 'refused E14 read failed' 'truncate -s 37
 meanwhile 'cut, and a set that reads nothing' "set $last inline 7" 'ok' 'truncate -s 3700 own.sgy'
 meanwhile 'cut, and a choice' 'count all where @1:4 = 0' 'refused E14 read failed' 'truncate -s 3700 own.sgy'
 meanwhile 'cut, and an edit of chosen traces' 'set all @1:4 7 where @1:4 >= 0' 'refused E14 read failed' 'truncate -s 3700 own.sgy'
+meanwhile 'cut, and samples that are filled' 'fill all 0 0 7' 'refused E14 read failed' 'truncate -s 3700 own.sgy'
 meanwhile 'grown' 'count' "traces $last" 'printf x >> own.sgy'
 meanwhile 'a trace of another length' "get 1 inline" 'refused E15 file changed' 'put own.sgy $((3600 + 114)) 0fff'
 meanwhile 'a statistic of whole numbers, cut' 'stat 1' "$(echo 'stat 1' | "$program" v.sgy --script /dev/stdin)" 'truncate -s 3700 own.sgy'

@@ -61,6 +61,12 @@ told 'too many words' 'count 1' 'S02 words: count 1 (the form is count [P Q wher
 told 'too few words of a search' 'find 1 3 inline 7' 'S02 words: find 1 3 inline 7 (the form is find P Q FIELD LOW HIGH [where A OP B ..])'
 told 'a table without fields' 'table 1 3' 'S02 words: table 1 3 (the form is table P Q FIELD .. [where A OP B ..])'
 told 'a table of too many fields' "table 1 3$(printf ' x%.0s' $(seq 65))" "S02 words: table 1 3$(printf ' x%.0s' $(seq 25)) .. (a table has at most 64 fields)"
+told 'statistics of several traces' 'stat 1 3' 'S02 words: stat 1 3 (of many traces it is stats P Q)'
+told 'statistics of all traces' 'stat all' 'S03 number: stat all (of many traces it is stats P Q)'
+told 'a fill of all traces that lacks a word' 'fill all 9 5' 'S02 words: fill all 9 5 (the form is fill P Q FROM TO NUMBER [where A OP B ..])'
+told 'a fill of one trace' 'fill 1 0 9 5' 'S02 words: fill 1 0 9 5 (of one trace it is fill P P FROM TO NUMBER)'
+told 'the last sample of a fill' 'fill all 10 last 0' 'S03 number: fill all 10 last 0 (last is a trace: FROM and TO are samples, and count from 0)'
+told 'too few words of a fill' 'fill 1 3 0' 'S02 words: fill 1 3 0 (the form is fill P Q FROM TO NUMBER [where A OP B ..])'
 told 'drop alone' 'drop' 'S02 words: drop (the form is drop tail)'
 told 'drop of something else' 'drop head' 'S03 number: drop head (the form is drop tail)'
 told 'a near word of drop' 'dorp tail' 'S01 unknown word: dorp tail (did you mean drop?)'

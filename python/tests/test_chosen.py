@@ -52,7 +52,7 @@ TAKES = [
     lambda v, text: v.count(traces=[1, 2], where=text), lambda v, text: v.headers("inline", where=text), lambda v, text: v.dataframe("inline", where=text),
     lambda v, text: v.find("inline", 1, 2, where=text), lambda v, text: v.extremes(where=text), lambda v, text: v.extremes(traces=[1, 2], where=text),
     lambda v, text: v.positions(where=text), lambda v, text: v.fit(where=text), lambda v, text: v.plot_headers("inline", where=text),
-    lambda v, text: v.swap("inline", "crossline", where=text),
+    lambda v, text: v.swap("inline", "crossline", where=text), lambda v, text: v.fill(1, 2, 0, 1, 7, where=text),
     lambda v, text: v.set_many("delay", None, 7, where=text), lambda v, text: v.section(where=text), lambda v, text: v.section([1, 2], text, inline=101),
     lambda v, text: v.section_traces(where=text), lambda v, text: v.plot_section(where=text),
 ]

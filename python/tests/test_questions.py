@@ -16,7 +16,7 @@ MADE = [files.varying, files.stanzas, files.extended, files.empty, *(lambda path
 METHODS = {
     "set": "set", "renumber": "renumber", "compute": "compute", "swap": "swap", "sort": "sort", "get": "get", "map": "map", "unmap": "unmap", "fields": "fields", "bin": "set_bin",
     "declare": "declare", "drop": "drop_tail", "getbin": "getbin", "text": "set_text", "line": "line", "code": "code", "stanzas": "stanzas", "sample": "sample",
-    "patch": "patch", "resize": "resize", "blank": "blank", "copy": "copy", "delete": "delete", "move": "move", "count": "count",
+    "patch": "patch", "fill": "fill", "resize": "resize", "blank": "blank", "copy": "copy", "delete": "delete", "move": "move", "count": "count",
     "info": "info", "geometry": "geometry", "stat": "stat", "stats": "stats", "totals": "totals", "range": "range", "fold": "fold", "grid": "grid",
     "inlines": "inlines", "crosslines": "crosslines", "histogram": "histogram", "slice": "slice", "faults": "faults",
     "problems": "problems",

@@ -1,5 +1,7 @@
 """Random edits: after each list of them Python shows what a run answers, and saves the same bytes."""
 
+import re
+
 import files
 import hypothesis.strategies as st
 import retell
@@ -20,6 +22,7 @@ EDITS = st.one_of(
     st.tuples(st.just("sort"), POSITIONS, POSITIONS, FIELDS, st.one_of(FIELDS, FIELDS.map("-{}".format))),
     st.tuples(st.just("set_many"), FIELDS, st.lists(st.tuples(st.integers(1, 7), st.integers(-9, 2**15)), max_size=5)),
     st.tuples(st.just("patch"), POSITIONS, st.integers(0, 4), st.lists(st.integers(-9, 9), min_size=1, max_size=3)),
+    st.tuples(st.just("fill"), st.one_of(st.none(), POSITIONS), POSITIONS, st.integers(0, 3), st.integers(0, 3), NUMBERS, st.sampled_from([None, "inline = 1"])),
     st.tuples(st.just("blank"), POSITIONS),
     st.tuples(st.just("copy"), POSITIONS, POSITIONS),
     st.tuples(st.just("delete"), POSITIONS),
@@ -60,9 +63,11 @@ def test_random_edits(tmp_path_factory, make, edits):
             if not do(volume, edit):
                 assert volume.edits == before
         pairs = retell.everything(volume)
-        answers = ["ok"] * len(volume.edits) + [answer for _, answer in pairs]
         script = [*volume.edits, *(question for question, _ in pairs)]
-        assert run(path, script, "--out", str(room / "run.sgy")) == ("".join(f"{line}\n" for line in answers), 0)
+        told, status = run(path, script, "--out", str(room / "run.sgy"))
+        *done, answers = told.split("\n", len(volume.edits))
+        assert [re.sub("^ok [0-9]+$", "ok N", line) for line in done] == ["ok N" if " where " in edit else "ok" for edit in volume.edits]
+        assert (answers, status) == ("".join(f"{answer}\n" for _, answer in pairs), 0)
         volume.save(room / "python.sgy")
         assert (room / "python.sgy").read_bytes() == (room / "run.sgy").read_bytes()
 

@@ -119,8 +119,9 @@ def test_every_refusal_of_the_manual_is_tried():
 
 @pytest.mark.parametrize("call", [
     lambda v: v.sample(1, 0), lambda v: v.sample(1, 9), lambda v: v.patch(1, 0, [1]), lambda v: v.patch(1, 9, [2**70]), lambda v: v.stat(2),
+    lambda v: v.fill(1, 2, 0, 1, 7),
     lambda v: v.totals(), lambda v: v.slice(0),
-], ids=["sample", "no sample", "patch", "a number that fits nowhere", "stat", "totals", "slice"])
+], ids=["sample", "no sample", "patch", "a number that fits nowhere", "stat", "fill", "totals", "slice"])
 def test_samples_without_values(tmp_path, call):
     path = files.floats(tmp_path / "float.sgy")
     volume = segywb.open(path, opaque_samples=True, floats=False)

@@ -268,6 +268,67 @@ def test_a_reading_in_pieces(tmp_path, way, fixed, coarse):
             assert reading.done and np.ma.allequal(reading.section.array, wanted.array)
 
 
+@pytest.mark.parametrize(
+    ("glance", "rows"),
+    [(230, range(0, 60, 6)), (10**6, range(0, 60, 2)), (160, range(0, 0)), (0, range(0, 0))],
+)
+def test_a_glance(tmp_path, monkeypatch, glance, rows):
+    """A few samples of each trace are there before a second session begins, where they are enough
+    for a picture.
+    """
+    chance = random.Random(5)
+    traces = [
+        files.trace(n, 1, n, [chance.randint(-99, 99) for _ in range(60 - n % 3)])
+        for n in range(1, 31)
+    ]
+    files.write(tmp_path / "chance.sgy", files.header(), files.binary(samples=60, fixed=0), *traces)
+    monkeypatch.setattr(many_samples, "chosen", lambda *asked: "aside")
+    where = list(range(25, 2, -1))
+    with volume_of(tmp_path) as volume:
+        wanted = np.ma.getdata(volume.section_of(where).array)
+        reading = volume.section_reading(where, 2, glance)
+        assert reading.begins and reading.part == 0
+        if rows:
+            reading.more(1)
+            assert reading.begins and not volume._engine._others
+            assert reading.part == pytest.approx(len(rows) / 60)
+            found = np.ma.getdata(reading.section.array)
+            assert found[:, rows].tolist() == wanted[:, rows].tolist()
+        reading.more(1)
+        assert not reading.begins and len(volume._engine._others) == 1
+        assert reading.part == pytest.approx((len(rows) + 1) / 60)
+        reading.more()
+        assert reading.done and not reading.begins and not volume._engine._others
+        assert np.ma.getdata(reading.section.array).tolist() == wanted.tolist()
+        at_once = volume.section_reading(where, 2, glance)
+        at_once.more()
+        assert at_once.done and np.ma.getdata(at_once.section.array).tolist() == wanted.tolist()
+
+
+def test_the_other_traces_are_taken_away_by_runs(opened, monkeypatch):
+    """Whatever was edited before: those that follow one another by one line."""
+    monkeypatch.setattr(many_samples, "chosen", lambda *asked: "aside")
+    sent, volume = [], opened("cube")
+    volume.move(12, 1)
+    real = many_samples._deletions
+
+    def told(gone):
+        for lines, count in real(gone):
+            sent.append(lines)
+            yield lines, count
+
+    monkeypatch.setattr(many_samples, "_deletions", told)
+    for where in ([2, 5, 6], [1], [12], [1, 12], list(range(1, 13)), [3, 4, 5]):
+        assert volume.section(where).array.tolist() == one_by_one(volume, where)
+    assert sent == [
+        b"delete 7 12\ndelete 3 4\ndelete 1 1\n",
+        b"delete 2 12\n",
+        b"delete 1 11\n",
+        b"delete 2 11\n",
+        b"delete 6 12\ndelete 1 2\n",
+    ]
+
+
 def volume_of(folder):
     return segywb.open(folder / "chance.sgy")
 

@@ -77,7 +77,7 @@ def lines_of(chance, count):
         elif chance.random() < 0.5:
             made.append(f"map {chance.choice(['inline', 'x', 'scalar'])} {chance.choice(['@9:2', '@71:2', '@21:2'])}")
         else:
-            made.append(f"patch {one} 0 {chance.randint(0, 99)}")
+            made.append(chance.choice([f"patch {one} 0 {chance.randint(0, 99)}", f"fill {one} {chance.randint(one, count)} 0 1 {chance.randint(0, 99)}"]))
     return made, count
 
 
@@ -418,7 +418,7 @@ def chosen_line(chance, count):
     more = chance.choice(["", f" where {where}"])
     return chance.choice([
         f"set {span} {field} {chance.randint(0, 40)}{more}", f"renumber {span} {field} 3 {chance.randint(-1, 2)}{more}", f"set last {field} 8",
-        f"compute {span} {field} crossline + 1{more}", f"swap {span} @189:4 crossline{more}", f"swap {span} ensemble y{more}", f"delete {first} {last}", f"delete {span} where {where}", "delete last", "copy 1 end", "copy last 1", "blank end",
+        f"compute {span} {field} crossline + 1{more}", f"swap {span} @189:4 crossline{more}", f"swap {span} ensemble y{more}", f"fill {span} 0 1 7{more}", f"delete {first} {last}", f"delete {span} where {where}", "delete last", "copy 1 end", "copy last 1", "blank end",
         "blank last", "move last 1", "sort all -crossline", f"set {first} {field} 5", "delete last last",
         f"move {first} {last} {chance.randint(1, count - last + first)}", f"move {first} last last",
         "map shot", "map usual",

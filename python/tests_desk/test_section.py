@@ -240,10 +240,61 @@ def test_before_and_now(desk):
     ).T.tolist() and told["sides"][0]["end"] == pytest.approx(end)
 
 
+def boxed(desk, told, left, right, top, bottom):
+    return Sections().boxed(desk, told, Window(left, right, top, bottom, 600, 400))
+
+
+def test_the_samples_in_a_box(desk):
+    """As runs of traces that stand behind one another in the file."""
+    box = boxed(desk, Asked("field_record", 103, 1, 0), 2, 6, 10, 21)
+    assert box == {"count": 4, "runs": [[43, 46, 10, 20]], "all": True}
+    desk.run("delete 44")
+    desk.run("move 43 60")
+    box = boxed(desk, Asked("field_record", 103, 1, 0), 0, 900, 290, 999)
+    assert box["runs"] == [[41, 58, 290, 299], [60, 60, 290, 299]]
+    assert boxed(desk, Asked("", None, 40, 45), 1, 2, 0, 1)["runs"] == [[41, 41, 0, 0]]
+    for ends in ((20, 30, 0, 9), (0, 3, 300, 310), (3, 3, 0, 9), (0, 3, 9, 9)):
+        box = boxed(desk, Asked("field_record", 104, 1, 0), *ends)
+        assert box == {"count": 0, "runs": [], "all": True}
+
+
+def test_a_box_over_traces_that_begin_at_other_times(tmp_path, monkeypatch):
+    """The rows of a section are times: a trace that begins two rows later has earlier samples in
+    them, and a short one fewer.
+    """
+    made = loaded(made_line(tmp_path / "line.sgy", traces=6, samples=30, records=6, delays=True))
+    try:
+        told = Asked("", None, 1, 6)
+        ends = [(3, 9), (1, 7), (0, 5)] * 2
+        wanted_runs = [[at, at, *both] for at, both in enumerate(ends, 1)]
+        assert boxed(made, told, 0, 6, 3, 10)["runs"] == wanted_runs
+        box = boxed(made, told, 0, 3, 31, 40)
+        assert box == {"count": 2, "runs": [[2, 2, 29, 29], [3, 3, 27, 29]], "all": True}
+        wanted_at = made.volume.section([2]).times.tolist()
+        assert wanted_at[1] == made.volume.section(range(1, 7)).times.tolist()[3]
+        monkeypatch.setattr(sections, "MOST_RUNS", 4)
+        box = boxed(made, told, 0, 6, 3, 10)
+        assert not box["all"] and box["runs"] == wanted_runs[:4]
+        assert boxed(made, told, 0, 4, 3, 10)["all"]
+        monkeypatch.setattr(sections, "MOST_SAMPLES", 100)
+        with pytest.raises(ValueError, match="one trace of 2 is shown"):
+            boxed(made, told, 0, 6, 3, 10)
+    finally:
+        made.close()
+    made = loaded(files.varying(tmp_path / "varying.sgy"))
+    try:
+        box = boxed(made, Asked("", None, 1, 3), 0, 3, 1, 9)
+        assert box["runs"] == [[2, 2, 1, 1], [3, 3, 1, 2]]
+    finally:
+        made.close()
+
+
 @pytest.mark.parametrize(
     "line, anew",
     [
         ("patch 3 0 77", True),
+        ("fill 1 3 0 9 0", True),
+        ("fill all 0 9 0 where offset = 0", True),
         ("delete 3", True),
         ("copy 3 9", True),
         ("move 3 9", True),
@@ -270,7 +321,7 @@ def test_what_is_read_anew(tmp_path, monkeypatch, line, anew):
     monkeypatch.setattr(
         segywb.Volume, "section_reading", lambda self, *more: asks.append(1) or reads(self, *more)
     )
-    assert made.run(line)["answers"][0]["text"] == "ok"
+    assert made.run(line)["answers"][0]["text"].startswith("ok")
     for _ in range(2):
         assert maker.view(made, told, ALL, look()) == Sections().view(made, told, ALL, look())
     assert len(asks) == 2 + int(anew)
@@ -363,12 +414,19 @@ def test_a_section_is_shown_while_it_is_read(desk, monkeypatch):
         and maker.view(desk, told_of, ALL, look()) == answer
     )
     monkeypatch.setattr("segywb.many_samples.chosen", lambda *asked: "aside")
-    part_ = maker.view(desk, Asked("", None, 1, 90), ALL, look())[0]["read"]
-    assert 0 < part_ < 1
-    maker.view(
-        desk, Asked("", None, 1, 80), ALL, look()
-    )  # the other one is given up, with its second session
-    assert len(desk.volume._engine._others) == 1
+    wide, narrow = Asked("", None, 1, 90), Asked("", None, 1, 80)
+    others = desk.volume._engine._others
+    part_ = maker.view(desk, wide, ALL, look())[0]["read"]
+    assert 0 < part_ < 1 and not others  # a few samples of each trace come first
+    assert maker.view(desk, wide, ALL, look())[0]["read"] > part_ and len(others) == 1
+    for _ in range(2):  # the other one is given up, with its second session
+        maker.view(desk, narrow, ALL, look())
+    assert len(others) == 1
+    for _ in range(100):
+        answer = maker.view(desk, narrow, ALL, look())
+        if answer[0]["read"] == 1:
+            break
+    assert answer == Sections().view(desk, narrow, ALL, look()) and not others
 
 
 def test_no_traces_and_no_samples(tmp_path):

@@ -291,6 +291,71 @@ def test_an_edit_is_seen_beside_what_was(opened, tmp_path):
     page.wait(lambda: page.data("sectionVersion") == page.data("version") and not sent(page).any())
 
 
+def drawn(page, across, down):
+    """Draws a rectangle over the first plot, from one trace and row to another, in fractions."""
+    canvas = "const one = document.getElementById('section-canvas')"
+    wide, tall = page.js(f"{canvas}; return [one.clientWidth, one.clientHeight]")
+    left, top = spot(page, 0, 0)
+    ends = view(page)
+
+    def parts(some, low, high):
+        return [(one - ends[low]) / (ends[high] - ends[low]) for one in some]
+
+    xs = [round(left + 70 + x * (wide - 78)) for x in parts(across, "left", "right")]
+    ys = [round(top + 24 + y * (tall - 34)) for y in parts(down, "top", "bottom")]
+    point(page, *zip(xs, ys), press=True)
+
+
+def test_a_rectangle_is_muted(opened, tmp_path):
+    """The lines are shown before they are run, as one step; a drag that selects moves nothing."""
+    page = opened_section(opened(made_line(tmp_path / "line.sgy", traces=40, samples=60)))
+    assert page.text("section-caption").endswith(" a drag moves, a click goes to the row.")
+    change(page, "section-drag", "selects")
+    page.wait(lambda: " a drag selects samples, a click" in page.text("section-caption"))
+    before = view(page)
+    drawn(page, (2.5, 5.5), (10.5, 29.5))
+    page.wait(lambda: page.find("mute").is_displayed())
+    assert view(page) == before and not page.find("section-box").is_displayed()
+    page.wait(lambda: page.one("#mute pre").text == "fill 3 6 10 29 0")
+    assert page.text("mute").startswith("4 traces, samples 10 to 29")
+    assert page.find("mute-run").text == "Run 1 line"
+    value = "const one = document.getElementById('mute-value')"
+    page.js(f"{value}; one.value = ''; one.dispatchEvent(new Event('input'))")
+    page.wait(lambda: page.one("#mute pre").text == "One value is wanted.")
+    assert not page.find("mute-run").is_enabled()
+    page.find("mute-value").send_keys("-7")
+    page.wait(lambda: page.one("#mute pre").text == "fill 3 6 10 29 -7")
+    page.step("mute-run")
+    assert page.answer("fill 3 6 10 29 -7") == "ok: 1 edits as one step"
+    assert not page.find("mute").is_displayed()
+    page.wait(lambda: page.data("sectionVersion") == page.data("version"))
+    for trace, at in ((3, 10), (6, 29), (5, 20)):
+        assert page.run(f"sample {trace} {at}") == "value -7"
+    assert page.run("sample 3 9") != "value -7" != page.run("sample 7 10")
+    page.step("undo")
+    change(page, "section-side", "both")
+    page.wait(lambda: [one["name"] for one in told(page)["sides"]] == ["was", "now"])
+    left, top = spot(page, 0.1, 0.5)
+    point(page, (left + 30, top), (left + 60, top + 20), press=True)
+    page.wait(lambda: "draw on what is now" in page.text("section-said"))
+
+
+def test_a_rectangle_goes_with_its_survey(opened, tmp_path):
+    """An edit between the drawing and the run leaves the lines what the rectangle holds then."""
+    page = opened_section(opened(made_line(tmp_path / "line.sgy", traces=40, samples=60)))
+    change(page, "section-drag", "selects")
+    drawn(page, (2.5, 5.5), (10.5, 29.5))
+    page.wait(lambda: page.all("#mute pre") and page.one("#mute pre").text == "fill 3 6 10 29 0")
+    page.run("delete 1")
+    page.wait(lambda: page.data("sectionVersion") == page.data("version"))
+    page.wait(lambda: page.one("#mute pre").text == "fill 3 6 10 29 0")
+    page.run("copy 4 1")
+    page.run("set 4 field_record 7")
+    page.wait(lambda: page.one("#mute pre").text == "fill 3 3 10 29 0\nfill 5 7 10 29 0")
+    page.one("#mute button[type=button]:last-of-type").click()
+    page.wait(lambda: not page.find("mute").is_displayed())
+
+
 def test_a_zoom_keeps_up(opened, tmp_path):
     """Each turn of the wheel is drawn in the next picture of the browser, whatever the server does."""
     page = opened_section(opened(made_line(tmp_path / "line.sgy", traces=300)))

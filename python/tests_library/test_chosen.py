@@ -83,7 +83,8 @@ def test_single_numbers_are_taken_back_as_before(room):
     ("set 5 inline 7", True, True), ("set last inline 7", True, True), ("bin job 7", True, True), ("# set all inline 7\nset 5 inline 7", True, True),
     ("set all inline 7", False, True), ("set 1 2 inline 7", False, True), ("set 1 last inline 7", False, True), ("set all inline 7 where inline = 8", False, True),
     ("set 5 inline 7\nset all inline 7", False, True), ("set 1 2 inline 7 where inline = 8", False, True), ("renumber all inline 7 0 where inline = 8", False, True),
-    ("compute all inline 7", False, True), ("delete 5 6", False, False), ("delete all", False, False), ("delete all where inline = 8", False, False),
+    ("compute all inline 7", False, True), ("patch 5 0 7", False, True), ("fill 5 5 0 9 0", False, True), ("fill all 0 9 0 where inline = 8", False, True),
+    ("delete 5 6", False, False), ("delete all", False, False), ("delete all where inline = 8", False, False),
     ("set 5 inline 7\n\tdelete 1 last where inline = 8", False, False), ("count all where inline = 8\ntable all inline where x > 7", True, True),
     ("extremes all where inline = 8\nfind all inline 1 2 where x < 7", True, True),
 ])

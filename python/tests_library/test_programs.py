@@ -3,8 +3,13 @@ with another option for files of floats."""
 
 import os
 
+import time
+
 import files
+import pytest
 from conftest import TOP, library, rows
+
+from segywb.library import talk
 
 REAL = os.environ.get("SEGYWB") or str(TOP / "dist" / "segywb-x86_64-linux")
 EARLIER = f"""#!/bin/bash
@@ -95,3 +100,35 @@ def test_a_program_that_is_none(few, tmp_path):
     program.write_text(f'#!/bin/sh\n[ "$2" != --session ] || {{ echo nonsense; exit 9; }}\nexec {REAL} "$@"\n')
     library("scan", "--db", tmp_path / "lib.db", few, SEGYWB=str(program), status=1)
     assert rows(tmp_path / "lib.db", "SELECT count(*) FROM file WHERE state = 'failed'") == [(12,)]
+
+
+PIECES = r"""#!/bin/sh
+[ "$2" = --session ] || exec %s "$@"
+refused='refused E01 no trace 9 of 3\n\n'
+for piece in 'value 1\n' '\nvalue 2\nmore\n\nval' "ue 3\n\n${refused}last\n\n"; do
+    printf "$piece"
+    sleep 0.05
+done
+read -r line
+"""
+
+
+def test_answers_that_come_in_pieces(few, tmp_path, monkeypatch):
+    """Of many answers that are read at once each is that of its line, wherever the pieces end."""
+    program = tmp_path / "pieces"
+    program.write_text(PIECES % REAL)
+    program.chmod(0o755)
+    monkeypatch.setenv("SEGYWB", str(program))
+    descriptor = os.open(few / "cube.sgy", os.O_RDONLY)
+    try:
+        with talk.Talk(descriptor, [], time.monotonic() + 60) as asked:
+            assert asked.ones(0) == []
+            assert asked.ones(2) == ["value 1", "value 2"]
+            with pytest.raises(talk.Trouble, match="refused E01 no trace 9 of 3"):
+                asked.ones(2)
+            assert asked.one() == "last"
+            asked.send(["end"])
+            with pytest.raises(talk.Trouble, match="ended with status 0"):
+                asked.ones(1)
+    finally:
+        os.close(descriptor)

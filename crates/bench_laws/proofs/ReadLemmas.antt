@@ -34,6 +34,7 @@ use Rattle.bench_rules.specs.declared.query.Query.TheVariants as queries
 use Rattle.bench_rules.specs.declared.refusal.Refusal.{Refusal}
 use Rattle.bench_rules.specs.declared.refusal.Refusal.TheVariants as refusals
 use Rattle.bench_rules.specs.Answer.{Reply, answer, or_fault, of_trace, trace_value, trace_sample, of_values, binary_value, line_answer, of_traces, table_answer, found_answer}
+use Rattle.bench_rules.specs.FilledSamples.{samples_refusal, sample_value_refusal}
 use Rattle.bench_rules.specs.Computed.{Formula, formula_of, applied, divides, is_in_range, unless_refused, stepped, chained, chained_from, computed_in, term_in, steps_in, refusal_of_result, compute_refusal, first_at, compute_refusal_in}
 use Rattle.bench_rules.specs.declared.chosen_edit.ChosenEdit.{ChosenEdit}
 use Rattle.bench_rules.specs.declared.chosen_edit.ChosenEdit.TheVariants as each
@@ -168,6 +169,13 @@ compute_silent v (Some f) a b = first_at_silent (compute_refusal v f) (λ p. res
 
 -- ---- of chosen traces
 
+value_silent : (o : Option ValueFormat) (x : ℤ) → Silent (sample_value_refusal o x)
+value_silent None x = refl
+value_silent (Some f) x = choose (sample_fits f x) None _ tt refl
+
+samples_silent : (h : Head) (first last : ℕ) (t : List ℕ) → Silent (samples_refusal h first last t)
+samples_silent h first last t = choose (nat_lt (max first last) (sample_count h t)) None _ tt refl
+
 range_silent : (v : Volume) (range : Option (ℕ × ℕ)) → Silent (range_refusal v range)
 range_silent v None = tt
 range_silent v (Some r) = either (no_trace v r.0) (no_trace_from v r.0 r.1) (no_trace_silent v r.0) (from_silent v r.0 r.1)
@@ -192,6 +200,9 @@ each_silent v fields (each.Swap first second) ps = by (two_places fields first s
     by : (o : Option (Place × Place)) → Silent (option_map_or (λ places. first_at (λ p. swap_refusal v.head places (trace_at v p)) ps) o None)
     by None = tt
     by (Some places) = first_at_silent (λ p. swap_refusal v.head places (trace_at v p)) (λ p. swap_silent v.head places (trace_at v p)) ps
+each_silent v fields (each.Fill first last x) ps =
+    either (sample_value_refusal (values v.head.format) x) (first_at (λ p. samples_refusal v.head first last (trace_at v p)) ps) (value_silent (values v.head.format) x)
+    (first_at_silent (λ p. samples_refusal v.head first last (trace_at v p)) (λ p. samples_silent v.head first last (trace_at v p)) ps)
 
 of_chosen_silent : (v : Volume) (fields : Pairs) (edit : ChosenEdit) (o : Option (List ℕ)) → Silent (refusal_of_chosen v fields edit o)
 of_chosen_silent v fields edit None = refl

@@ -14,7 +14,7 @@ use Rattle.frame_cut.specs.Volume.{Volume, bytes_of}
 use Rattle.frame_cut.proofs.EditLemmas.{cut_with_removed}
 use Rattle.bench_rules.specs.declared.chosen.Chosen.{Chosen}
 use Rattle.bench_rules.specs.declared.chosen_edit.ChosenEdit.{ChosenEdit}
-use Rattle.bench_rules.specs.declared.chosen_edit.ChosenEdit.TheVariants.{Nothing, Renumber, Compute, Delete, Swap}
+use Rattle.bench_rules.specs.declared.chosen_edit.ChosenEdit.TheVariants.{Nothing, Renumber, Compute, Delete, Swap, Fill}
 use Rattle.bench_rules.specs.declared.edit.Edit.TheVariants.{OfChosen}
 use Rattle.bench_rules.specs.declared.field.Field.{Field}
 use Rattle.bench_rules.specs.declared.operand.Operand.{Operand}
@@ -26,6 +26,7 @@ use Rattle.bench_rules.specs.After.{bytes_after}
 use Rattle.bench_rules.specs.ChosenEdits.{bytes_after_each, bytes_with, chosen_refusal, computed_each, counted_each, has_fields, refusal_of_chosen, refusal_of_edit, refusal_under, without_each}
 use Rattle.bench_rules.specs.Computed.{Formula, formula_of, computed_in, compute_refusal, first_at, number_at}
 use Rattle.bench_rules.specs.Conditions.{AreRising, chosen, chosen_among, judged, meets, range_of, tests_of}
+use Rattle.bench_rules.specs.FilledSamples.{filled}
 use Rattle.bench_rules.specs.ManyTraces.{each_of, positions}
 use Rattle.bench_rules.specs.Places.{place_in_trace}
 use Rattle.bench_rules.specs.RangeRefusals.{no_trace, no_trace_from, range_refusal}
@@ -34,6 +35,7 @@ use Rattle.bench_rules.specs.State.{State}
 use Rattle.bench_rules.specs.SwappedFields.{changed_each, swap_refusal, swapped, two_places}
 use Rattle.bench_rules.specs.TraceEdits.{counted, put_each}
 use Rattle.bench_rules.proofs.ComputeLemmas.{number_of, number_there}
+use Rattle.bench_rules.proofs.FillLemmas.{filled_cut}
 use Rattle.bench_rules.proofs.FirstLemmas.{AreTraces, are_traces, both_none}
 use Rattle.bench_rules.proofs.ListedLemmas.{AreListed, listed_cut, with_listed}
 use Rattle.bench_rules.proofs.ManyValueLemmas.{IsRead, with_traces}
@@ -239,6 +241,12 @@ each_cut s (Swap first second) ps read up has none = by (two_places s.fields fir
           cut = rw e (swapped_cut s places ps read up free);
           head = head-changed (swapped s.volume.head places) s.volume ps;
         }
+each_cut s (Fill first last x) ps read up has none =
+    record {
+      volume = changed_each (filled s.volume.head first last x) s.volume ps;
+      cut = filled_cut s first last x ps read up none;
+      head = head-changed (filled s.volume.head first last x) s.volume ps;
+    }
 
 -- an edit that is not refused leaves a file that is cut
 pub chosen_cut : (s : State) (c : Chosen) (edit : ChosenEdit) → IsRead s → first_refusal s (OfChosen c edit) ≡ None → (v : Volume) × IsCut (bytes_after s (OfChosen c edit)) s.reading s.limits v × (v.head ≡ s.volume.head)

@@ -18,6 +18,7 @@ mod CountedLemmas
 pub mod ComputedLemmas
 pub mod ComputeLemmas
 pub mod SwapLemmas
+pub mod FillLemmas
 pub mod ChosenLemmas
 pub mod LiveLemmas
 mod TableLemmas

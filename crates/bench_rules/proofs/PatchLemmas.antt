@@ -24,6 +24,7 @@ use Rattle.frame_cut.specs.Traces.{count_of, trace_at, with_trace}
 use Rattle.frame_cut.specs.Volume.{Volume, bytes_of, start_of}
 use Rattle.frame_cut.proofs.EditLemmas.{bytes_with_splice, cut_with_trace, length-splice}
 use Rattle.trace_view.specs.Values.{samples_at}
+pub use Rattle.bench_rules.specs.FilledSamples.{with_samples}
 use Rattle.bench_rules.specs.WholeTraces.{bytes_after_patch, patched, samples_start}
 use Rattle.bench_rules.proofs.PlaceLemmas.{length_same}
 
@@ -76,10 +77,6 @@ pub measured : (h : Head) (t : List ℕ) → IsTrace h t → IsMeasured h t
 measured h t is = measured-by h t (extension_count h t) refl is.exact
 
 -- ---- the values over them
-
--- the trace with the values over its samples from sample k on, as numbers of the format
-abbrev pub with_samples : Head → ValueFormat → List ℕ → ℕ → List ℤ → List ℕ
-with_samples h f t k xs = splice t (samples_at h t + width h.format * k) (width h.format * length xs) (samples_bytes h.order f xs)
 
 -- their bytes are as many as those of the file's samples
 pub length-values : (h : Head) (f : ValueFormat) (xs : List ℤ) → values h.format ≡ Some f → length (samples_bytes h.order f xs) ≡ width h.format * length xs

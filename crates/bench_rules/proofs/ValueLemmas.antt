@@ -1,5 +1,6 @@
 -- Values and their bytes, one more at a time.
 use Rattle.std.proofs.Common.{◌≡◌, ℕ, ℤ, zero, suc, ◌+◌, ◌<◌, Bool, true, false, List, [], ◌∷◌, ◌++◌, length, take, get_or, pos, refl, sym, ap, ◌∙◌, arith, append_assoc, append-nil}
+use Rattle.std.specs.Prelude.{replicate}
 use Rattle.std.specs.List.{list_all}
 use Rattle.std.proofs.lemmas.List.Folds.{list_all_at, list_all_more}
 use Rattle.num_order.specs.declared.order.Order.{Order}
@@ -36,3 +37,12 @@ one_more_sample o f (x ∷ xs) (suc i) h =
 pub one_more_value : (o : Order) (f : ValueFormat) (xs : List ℤ) (i : ℕ) (x : ℤ) (old new all : List ℕ) → i < length xs → x ≡ get_or xs i (pos 0) → old ≡ samples_bytes o f (take i xs) → new ≡ sample_bytes o f x → all ≡ old ++ new
     → all ≡ samples_bytes o f (take (i + 1) xs)
 one_more_value o f xs i x old new all h is e g joined = joined ∙ rw (e, g, is) (sym (one_more_sample o f xs i h))
+
+-- the bytes of one more sample of the same value stand behind the others
+pub one_more_repeated : (o : Order) (f : ValueFormat) (x : ℤ) (n : ℕ) → samples_bytes o f (replicate (n + 1) x) ≡ samples_bytes o f (replicate n x) ++ sample_bytes o f x
+one_more_repeated o f x zero = append-nil (sample_bytes o f x)
+one_more_repeated o f x (suc n) =
+    let at : suc n + 1 ≡ suc (n + 1) = omega arith in
+    ap (λ (k : ℕ). samples_bytes o f (replicate k x)) at
+    ∙ ap (λ (s : List ℕ). sample_bytes o f x ++ s) (one_more_repeated o f x n)
+    ∙ sym (append_assoc (sample_bytes o f x) (samples_bytes o f (replicate n x)) (sample_bytes o f x))

@@ -2,6 +2,7 @@
 use Rattle.std.specs.Prelude.{ℕ, ℤ, Bool, true, not, is_some, List, [], ◌∷◌, length, map, filter_map, Option, Some, None, option_map, if◌then◌else◌}
 use Rattle.std.specs.List.{enumerate_from}
 use Rattle.std.specs.Option.{option_or, option_map_or}
+use Rattle.sample_codes.specs.Formats.{values}
 use Rattle.field_map.specs.declared.place.Place.{Place}
 use Rattle.field_map.specs.Pairs.{Pairs}
 use Rattle.frame_cut.specs.Parts.{without}
@@ -9,12 +10,13 @@ use Rattle.frame_cut.specs.Traces.{trace_at}
 use Rattle.frame_cut.specs.Volume.{Volume, bytes_of}
 use Rattle.bench_rules.specs.declared.chosen.Chosen.{Chosen}
 use Rattle.bench_rules.specs.declared.chosen_edit.ChosenEdit.{ChosenEdit}
-use Rattle.bench_rules.specs.declared.chosen_edit.ChosenEdit.TheVariants.{Nothing, Renumber, Compute, Delete, Swap}
+use Rattle.bench_rules.specs.declared.chosen_edit.ChosenEdit.TheVariants.{Nothing, Renumber, Compute, Delete, Swap, Fill}
 use Rattle.bench_rules.specs.declared.refusal.Refusal.{Refusal}
 use Rattle.bench_rules.specs.declared.refusal.Refusal.TheVariants as refusals
 use Rattle.bench_rules.specs.declared.test.Test.{Test}
 use Rattle.bench_rules.specs.Computed.{Formula, formula_of, compute_refusal, computed_in, first_at, number_at}
 use Rattle.bench_rules.specs.Conditions.{chosen, chosen_among, is_empty, range_of, tests_of}
+use Rattle.bench_rules.specs.FilledSamples.{filled, samples_refusal, sample_value_refusal}
 use Rattle.bench_rules.specs.ManyTraces.{each_of}
 use Rattle.bench_rules.specs.Places.{place_in_trace}
 use Rattle.bench_rules.specs.RangeRefusals.{range_refusal, first_refusal_among}
@@ -38,6 +40,7 @@ sets_of v fields (Renumber field first step) ps = option_map (λ place. (place, 
 sets_of v fields (Compute field source steps) ps = option_map (λ f. (f.place, computed_each v f ps)) (formula_of fields field source steps)
 sets_of v fields Delete ps = None
 sets_of v fields (Swap first second) ps = None
+sets_of v fields (Fill first last x) ps = None
 
 -- ---- refusals
 
@@ -48,6 +51,7 @@ has_fields fields (Renumber field first step) = is_some (place_in_trace fields f
 has_fields fields (Compute field source steps) = is_some (formula_of fields field source steps)
 has_fields fields Delete = true
 has_fields fields (Swap first second) = is_some (two_places fields first second)
+has_fields fields (Fill first last x) = true
 
 -- what the edit refuses of these traces, where its fields have places
 abbrev pub refusal_of_edit : Volume → Pairs → ChosenEdit → List ℕ → Option Refusal
@@ -57,6 +61,8 @@ refusal_of_edit v fields (Compute field source steps) ps = option_map_or (λ f. 
 refusal_of_edit v fields Delete ps = None
 refusal_of_edit v fields (Swap first second) ps =
     option_map_or (λ places. first_at (λ p. swap_refusal v.head places (trace_at v p)) ps) (two_places fields first second) None
+refusal_of_edit v fields (Fill first last x) ps =
+    option_or (sample_value_refusal (values v.head.format) x) (first_at (λ p. samples_refusal v.head first last (trace_at v p)) ps)
 
 -- the refusal where these are the chosen traces: E03 where a trace of the range lacks the place of a condition
 abbrev pub refusal_of_chosen : Volume → Pairs → ChosenEdit → Option (List ℕ) → Option Refusal
@@ -94,6 +100,7 @@ bytes_after_each v fields (Compute field source steps) ps = bytes_with v (sets_o
 bytes_after_each v fields Delete ps = bytes_of (without_each v ps)
 bytes_after_each v fields (Swap first second) ps =
     option_map_or (λ places. bytes_of (changed_each (swapped v.head places) v ps)) (two_places fields first second) (bytes_of v)
+bytes_after_each v fields (Fill first last x) ps = bytes_of (changed_each (filled v.head first last x) v ps)
 
 -- the file's bytes after the edit of the chosen traces
 abbrev pub bytes_after_chosen : Volume → Pairs → Chosen → ChosenEdit → List ℕ

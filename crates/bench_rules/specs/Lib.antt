@@ -36,6 +36,8 @@ pub mod SetRefusals
 pub mod Sorted
 pub mod SwappedFields
 pub mod SwapExamples
+pub mod FilledSamples
+pub mod FillExamples
 pub mod SortedExamples
 pub mod State
 pub mod Steps

@@ -85,6 +85,7 @@ each_looks fields (chosen_edits.Renumber field first step) n = put_looks fields 
 each_looks fields (chosen_edits.Compute field source steps) n = 2 * n
 each_looks fields chosen_edits.Delete n = 0
 each_looks fields (chosen_edits.Swap first second) n = 2 * n
+each_looks fields (chosen_edits.Fill first last x) n = 2 * n
 
 -- the looks of a query about so many
 abbrev pub asking_looks : ChosenQuery → ℕ → ℕ

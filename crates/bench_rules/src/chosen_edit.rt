@@ -31,4 +31,13 @@ pub enum ChosenEdit {
     /// one: E03 where it lacks one of the places, E04 and E06 of the second's number at the first
     /// place, then E04 and E06 of the first's number, as it was, at the second place.
     Swap(Field, Field),
+    /// The value in each sample of them from the first to the last, both counted from 0; none where
+    /// the first is above the last. Refused: E12 where samples have no values, E04 where the value
+    /// does not fit their format, also where there is no trace; then E05 of the lowest trace
+    /// without the greater of the two samples, which it names.
+    Fill {
+        first_sample: u32,
+        last_sample: u32,
+        value: i128,
+    },
 }

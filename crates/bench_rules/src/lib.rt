@@ -3,7 +3,7 @@
 //! `specs/`; the bench above holds a volume and follows them.
 //!
 //! Traces count from 1, bytes in a header from 1, samples of a trace from 0. No call takes memory
-//! but `samples_bytes`, `joined`, `zeros`, `resized` and `values_bytes`.
+//! but `samples_bytes`, `repeated_sample`, `joined`, `zeros`, `resized` and `values_bytes`.
 #![tactic(auto)]
 
 mod answer;
@@ -76,12 +76,15 @@ pub use crate::renumber::{counted_up, renumber_refusal, values_bytes};
 pub use crate::resize::{count_refusal, resized};
 pub use crate::row::Row;
 pub use crate::samples::{
-    float_stat, patch_refusal, sample_place, statistics_of_floats, trace_sample,
+    float_stat, patch_refusal, sample_place, sample_value_refusal, samples_refusal,
+    statistics_of_floats, trace_sample,
 };
 pub use crate::table::Table;
 pub use crate::term::Term;
 pub use crate::test::{Test, meets_all, test_of};
 pub use crate::text::Text;
 pub use crate::text_lines::is_line;
-pub use crate::trace_bytes::{all_fit, blank_length, joined, samples_bytes, zeros};
+pub use crate::trace_bytes::{
+    all_fit, blank_length, joined, repeated_sample, samples_bytes, zeros,
+};
 pub use crate::trace_statistics::{FloatTraceStatistics, TraceStatistics};

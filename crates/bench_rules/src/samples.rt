@@ -3,10 +3,11 @@ ghost use Rattle.std.specs.Prelude.{◌≡◌, ◌≤◌, ◌+◌, ◌*◌, ◌^
 ghost use Rattle.num_order.specs.Number.{is_between};
 ghost use Rattle.float_codes.specs.Ranks.{value_at as value_at_rank};
 ghost use Rattle.float_sum.specs.Sums.{total_of};
-ghost use Rattle.sample_codes.specs.Formats.{width};
+ghost use Rattle.sample_codes.specs.Formats.{values, width};
 ghost use Rattle.trace_view.specs.Shown.{bytes_of, head_of};
 ghost use Rattle.trace_view.specs.Values.{has_floats, samples_at, samples_of};
 ghost use Rattle.bench_rules.specs.Answer.{trace_sample as sample_reply};
+ghost use Rattle.bench_rules.specs.FilledSamples.{samples_refusal as refusal_of_samples, sample_value_refusal as refusal_of_value};
 ghost use Rattle.bench_rules.specs.FloatStatistics.{float_statistics_of, floats_of, stat_of};
 ghost use Rattle.bench_rules.specs.Refused.{patch_refusal as refusal_of_patch};
 
@@ -120,4 +121,33 @@ pub fn patch_refusal(
         return Some(Refusal::NoSample(k.max(count), count));
     }
     None
+}
+
+/// The refusal of a value for samples of the format, whatever trace they are of: E12 where they
+/// have no values, E04 where it does not fit them.
+pub fn sample_value_refusal(format: Format, value: i128) -> Option<Refusal>
+    ensures { result ≡ refusal_of_value (values format) value }
+{
+    let Some(numbers) = format.values() else {
+        return Some(Refusal::NoValues);
+    };
+    if numbers.fits(value) {
+        None
+    } else {
+        Some(Refusal::DoesNotFit)
+    }
+}
+
+/// The refusal of a trace that lacks one of two samples, counted from 0: E05, which names the
+/// greater of the two.
+pub fn samples_refusal(trace: &TraceView<'_>, first: u32, last: u32) -> Option<Refusal>
+    ensures { result ≡ refusal_of_samples (head_of trace.now) first last (bytes_of trace.now) }
+{
+    let sample = first.max(last);
+    let count = trace.sample_count();
+    if sample < count {
+        None
+    } else {
+        Some(Refusal::NoSample(sample, count))
+    }
 }

@@ -49,6 +49,32 @@ pub fn samples_bytes(
     Ok(bytes)
 }
 
+/// The bytes of so many samples of one value, one after another. Takes memory for all of them at
+/// once.
+pub fn repeated_sample(
+    alloc: Global,
+    order: Order,
+    format: ValueFormat,
+    value: i128,
+    count: u32,
+) -> Result<Vec<u8>, Refusal>
+    requires fits { IsTrue (sample_fits format value) }
+    ensures ok { IfOk result (λ bytes.
+        bytes.items ≡ bytes_of_samples order format (replicate count value)) }
+    ensures err { IfErr result (λ refusal. refusal ≡ no_memory) }
+{
+    let width = usize::from(format.width());
+    let mut bytes = Vec::with_capacity(alloc, width * count as usize)?;
+    let mut buffer = [0u8; 8];
+    let sample = &mut buffer[..width];
+    format.encode(order, value, sample);
+    let sample: &[u8] = sample;
+    for _done in 0..count {
+        bytes.extend_from_slice(sample)?;
+    }
+    Ok(bytes)
+}
+
 /// The trace's bytes in one vector. Takes memory for all of them at once.
 pub fn joined(alloc: Global, trace: &TraceView<'_>) -> Result<Vec<u8>, Refusal>
     ensures ok { IfOk result (λ bytes. bytes.items ≡ bytes_of trace.now) }

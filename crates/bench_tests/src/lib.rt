@@ -3,6 +3,8 @@
 #![tactic(auto)]
 
 #[cfg(test)]
+mod chosen_tests;
+#[cfg(test)]
 mod compute_tests;
 #[cfg(test)]
 mod header_tests;

@@ -3,6 +3,7 @@
 use Rattle.std.specs.Prelude.{ℕ, ◌≡◌, ◌+◌, ◌-◌, ◌≤◌, ◌^◌, Bool, IsTrue, List, length, nat_lt, if◌then◌else◌}
 use Rattle.frame_cut.specs.Traces.{trace_at}
 use Rattle.frame_cut.specs.Volume.{Volume}
+use Rattle.trace_store.specs.Each.{put_over}
 use Rattle.edit_overlay.specs.Loaded.{Loaded}
 use Rattle.trace_view.specs.declared.view.TraceView.{TraceView}
 use Rattle.trace_view.specs.Shown.{head_of, bytes_of}
@@ -10,6 +11,11 @@ use Rattle.trace_view.specs.Shown.{head_of, bytes_of}
 -- the volume with other traces
 abbrev pub with_traces : Volume → List (List ℕ) → Volume
 with_traces v ts = record v { traces = ts }
+
+-- the volume with these bytes laid over each of the traces from trace a on, one for each of the places: in each from its place on, counted
+-- from 0
+abbrev pub with_over : Volume → ℕ → (places bytes : List ℕ) → Volume
+with_over v a places bytes = record v { traces = put_over v.traces (a - 1) places bytes }
 
 -- a volume and the payload of each of its traces, both as they would be with the edit that is prepared (the same where
 -- none is), how often traces were looked at, the bytes that were loaded and whether they are on disk, and whether each read of

@@ -13,16 +13,16 @@
 //! `volume_loading` makes an overlay of a file ([`Overlay::new`]). Where a file that stays on disk
 //! is refused, a [`PassFault`] has the bytes that were read.
 //!
-//! `prepare_put` and `prepare_put_each` take memory for the runs of the traces that they change;
-//! `insert` for one slot, for what holds its bytes, and for room in the order, `move_to` and
-//! `prepare_move` for room in the order. Each of them may be refused for want of memory, and then
-//! nothing is changed. No other call takes any.
+//! `prepare_put`, `prepare_put_each` and `prepare_put_over` take memory for the runs of the traces
+//! that they change; `insert` for one slot, for what holds its bytes, and for room in the order,
+//! `move_to` and `prepare_move` for room in the order. Each of them may be refused for want of
+//! memory, and then nothing is changed. No other call takes any.
 //!
 //! A put or a move has two parts for a caller that has to show its outcome first, or to take memory
-//! elsewhere too: `prepare_put`, `prepare_put_each` and `prepare_move` take all the memory and
-//! change nothing, `look_prepared` shows a trace as it would be, and `commit`, which cannot fail,
-//! makes the edit, as `commit_with`, which gives a trace its payload too; `discard` drops it. An
-//! overlay holds one such edit at a time, and any other edit drops it.
+//! elsewhere too: `prepare_put`, `prepare_put_each`, `prepare_put_over` and `prepare_move` take all
+//! the memory and change nothing, `look_prepared` shows a trace as it would be, and `commit`, which
+//! cannot fail, makes the edit, as `commit_with`, which gives a trace its payload too; `discard`
+//! drops it. An overlay holds one such edit at a time, and any other edit drops it.
 //!
 //! `look` and `look_prepared` show a trace in the pieces in which it is held. Looks are counted:
 //! contracts can say how often traces were read. Payloads are no look.

@@ -1,4 +1,4 @@
-ghost use Rattle.std.specs.Prelude.{ℕ, ◌≡◌, ◌⊎◌, ◌↔◌, ◌+◌, ◌-◌, ◌/◌, ◌%◌, ◌≤◌, ◌<◌, ◌^◌, false, [], length, slice_index_or, option_map, slice_get, slice_set, map, Some, All, IfOk, IfErr, IfSome, IsSome, IsTrue, OnOk, OnErr, MatchResult};
+ghost use Rattle.std.specs.Prelude.{ℕ, ◌≡◌, ◌⊎◌, ◌↔◌, ◌+◌, ◌-◌, ◌/◌, ◌%◌, ◌≤◌, ◌<◌, ◌^◌, false, [], length, slice_index_or, get_or, option_map, slice_get, slice_set, map, Some, All, IfOk, IfErr, IfSome, IsSome, IsTrue, OnOk, OnErr, MatchResult};
 ghost use Rattle.std.specs.Borrow.{sem};
 ghost use Rattle.frame_cut.specs.Cuts.{IsTrace};
 ghost use Rattle.frame_cut.specs.Splice.{splice};
@@ -6,7 +6,7 @@ ghost use Rattle.frame_cut.specs.Traces.{count_of, is_trace, trace_at, with_trac
 ghost use Rattle.frame_cut.specs.Volume.{bytes_of};
 ghost use Rattle.trace_seq.specs.Without.{taken_out, without_each, AreRising};
 ghost use Rattle.trace_store.specs.Each.{part_of};
-ghost use Rattle.edit_overlay.specs.CountedVolume.{with_prepared, with_table, with_table_prepared, with_traces, with_volume};
+ghost use Rattle.edit_overlay.specs.CountedVolume.{with_over, with_prepared, with_table, with_table_prepared, with_traces, with_volume};
 ghost use Rattle.trace_store.specs.Stores.{payloads_moved, payloads_of};
 ghost use Rattle.trace_store.specs.Swapped.{with_places_swapped, with_swapped, ArePlaces};
 ghost use Rattle.std.specs.List.{insert, remove};
@@ -375,6 +375,36 @@ impl<T: Copy> Overlay<T> {
         ensures err { OnErr result (self.new ≡ self.old) }
     {
         let prepared = self.laid.store.prepare_put_each(alloc, a, at, size, bytes)?;
+        self.laid.prepared = Some(prepared);
+        Ok(())
+    }
+
+    /// Prepares to lay the bytes over each of the traces from trace a on, which counts from 1, one
+    /// for each of the places: in each from its own place on, counted from 0 in the trace; in place
+    /// of what was prepared before. The volume stays as it is. The caller shows that each trace's
+    /// headers give it the same length then. Takes memory in step with all that edits laid over
+    /// these traces; may be refused for want of memory alone, and then nothing is changed.
+    pub fn prepare_put_over(
+        &mut self,
+        alloc: Global,
+        a: u32,
+        places: &[u64],
+        bytes: &[u8],
+    ) -> Result<(), OutOfMemory>
+        requires first { 1 ≤ a }
+        requires some { 0 < length bytes.now }
+        requires last { a - 1 + length places.now ≤ count_of self.old.volume }
+        requires inside { (k : ℕ) → k < length places.now → get_or places.now k 0 +
+            length bytes.now ≤ length (slice_index_or self.old.volume.traces (a - 1 + k) []) }
+        requires whole { (k : ℕ) → k < length places.now → IsTrue self.old.agreed →
+            IsTrace self.old.volume.head
+            (splice (slice_index_or self.old.volume.traces (a - 1 + k) []) (get_or places.now k 0)
+            (length bytes.now) bytes.now) }
+        ensures ok { OnOk result (self.new ≡ with_prepared self.old
+            (with_over self.old.volume a places.now bytes.now)) }
+        ensures err { OnErr result (self.new ≡ self.old) }
+    {
+        let prepared = self.laid.store.prepare_put_over(alloc, a, places, bytes)?;
         self.laid.prepared = Some(prepared);
         Ok(())
     }

@@ -48,6 +48,7 @@ each-more fields (each.Renumber f first step) n m less = put-more fields (place_
 each-more fields (each.Compute f source steps) n m less = omega (arith, less)
 each-more fields each.Delete n m less = omega arith
 each-more fields (each.Swap first second) n m less = omega (arith, less)
+each-more fields (each.Fill first last x) n m less = omega (arith, less)
 
 -- the looks of the choice and of the edit are those of the whole
 pub all_looked : (s : State) (c : Chosen) (edit : ChosenEdit) (n old mid new : ℕ) → n ≤ most_chosen s.volume s.fields c → RisesAtMost old mid (choosing_looks s.volume s.fields c)

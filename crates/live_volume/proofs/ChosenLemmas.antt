@@ -1,8 +1,9 @@
 -- Edits of chosen traces: those of the first traces, to which they were brought, once all are brought back.
 use Rattle.std.proofs.Common.{◌≡◌, ◌⊎◌, ℕ, ℤ, zero, suc, ◌+◌, ◌-◌, ◌*◌, ◌<◌, ◌≤◌, Bool, true, false, ◌&&◌, leb, List, [], ◌∷◌, length, Option, Some, None, Ok, Err, inl, inr, refl, sym, ap, subst, ◌∙◌, arith}
-use Rattle.std.specs.Option.{option_map_or}
+use Rattle.std.specs.Option.{option_map_or, option_or}
 use Rattle.std.specs.Prelude.{is_some, option_map, Result, OnOk, OnErr, IfOk, IfErr}
 use Rattle.std.proofs.lemmas.Bool.{le-leb}
+use Rattle.sample_codes.specs.Formats.{values}
 use Rattle.field_map.specs.declared.place.Place.{Place}
 use Rattle.frame_cut.specs.Cuts.{IsCut}
 use Rattle.frame_cut.specs.Traces.{count_of}
@@ -21,6 +22,7 @@ use Rattle.bench_rules.specs.declared.refusal.Refusal.TheVariants.{OutOfMemory}
 use Rattle.bench_rules.specs.ChosenEdits.{bytes_after_each, has_fields, refusal_of_edit}
 use Rattle.bench_rules.specs.Computed.{Formula, formula_of}
 use Rattle.bench_rules.specs.Conditions.{AreRising}
+use Rattle.bench_rules.specs.FilledSamples.{sample_value_refusal}
 use Rattle.bench_rules.specs.Looks.{each_looks, edit_looks, looks_at, put_looks, range_looks}
 use Rattle.bench_rules.specs.Places.{place_in_trace}
 use Rattle.bench_rules.specs.ReadFaults.{IsReadRefusal}
@@ -43,20 +45,29 @@ use Rattle.live_volume.specs.Refusals.{IsOfMachine}
 
 -- ---- no traces
 
-pub empty_none : (s : State) (edit : ChosenEdit) → refusal_of_edit s.volume s.fields edit [] ≡ None
-empty_none s (each.Nothing names) = refl
-empty_none s (each.Renumber f first step) = refl
-empty_none s (each.Compute f source steps) = by (formula_of s.fields f source steps)
+-- what is refused all the same is a value for samples
+pub empty_none : (s : State) (edit : ChosenEdit) → ((first last : ℕ) (x : ℤ) → edit ≡ each.Fill first last x → ⊥) → refusal_of_edit s.volume s.fields edit [] ≡ None
+empty_none s (each.Nothing names) other = refl
+empty_none s (each.Renumber f first step) other = refl
+empty_none s (each.Compute f source steps) other = by (formula_of s.fields f source steps)
   where
     by : (o : Option Formula) → option_map_or (λ (g : Formula). let r : Option Refusal = None in r) o None ≡ None
     by None = refl
     by (Some g) = refl
-empty_none s each.Delete = refl
-empty_none s (each.Swap first second) = by (two_places s.fields first second)
+empty_none s each.Delete other = refl
+empty_none s (each.Swap first second) other = by (two_places s.fields first second)
   where
     by : (o : Option (Place × Place)) → option_map_or (λ (places : Place × Place). let r : Option Refusal = None in r) o None ≡ None
     by None = refl
     by (Some places) = refl
+empty_none s (each.Fill first last x) other = absurd (other first last x refl)
+
+pub empty_filled : (s : State) (first last : ℕ) (x : ℤ) → refusal_of_edit s.volume s.fields (each.Fill first last x) [] ≡ sample_value_refusal (values s.volume.head.format) x
+empty_filled s first last x = by (sample_value_refusal (values s.volume.head.format) x)
+  where
+    by : (o : Option Refusal) → option_or o None ≡ o
+    by None = refl
+    by (Some r) = refl
 
 pub empty_cut : (s : State) (edit : ChosenEdit) → IsRead s → IsCut (bytes_after_each s.volume s.fields edit []) s.reading s.limits s.volume
 empty_cut s (each.Nothing names) read = read
@@ -76,6 +87,7 @@ empty_cut s (each.Swap first second) read = by (two_places s.fields first second
     by : (o : Option (Place × Place)) → two_places s.fields first second ≡ o → IsCut (bytes_after_each s.volume s.fields (each.Swap first second) []) s.reading s.limits s.volume
     by None e = rw e read
     by (Some places) e = rw e read
+empty_cut s (each.Fill first last x) read = read
 
 -- a list without items
 pub is_nothing : (ps : List ℕ) → length ps ≡ 0 → ps ≡ []

@@ -11,4 +11,7 @@ mod MappingLemmas
 mod ChosenLemmas
 mod ChosenEachLemmas
 pub mod TakenLemmas
+mod ChangedLemmas
 mod SwapLemmas
+mod OverLemmas
+mod FillLemmas

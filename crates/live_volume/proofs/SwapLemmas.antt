@@ -1,21 +1,17 @@
 -- Two numbers of chosen traces in the place of one another: the bytes that are laid over the traces in front, and the volume once all are brought back.
-use Rattle.std.proofs.Common.{◌≡◌, ◌⊎◌, ℕ, zero, suc, ◌+◌, ◌*◌, ◌-◌, ◌/◌, ◌%◌, ◌<◌, ◌≤◌, true, List, [], ◌∷◌, length, map, take, drop, get_or, set, Option, Some, None, inl, inr, refl, sym, ap, ap₂, subst, ◌∙◌, arith}
-use Rattle.std.specs.Prelude.{is_some, option_and_then, option_map}
-use Rattle.std.specs.List.{range_with_len}
+use Rattle.std.proofs.Common.{◌≡◌, ◌⊎◌, ℕ, suc, ◌+◌, ◌*◌, ◌-◌, ◌/◌, ◌%◌, ◌<◌, ◌≤◌, List, [], ◌∷◌, length, take, drop, get_or, set, Some, None, inl, inr, refl, sym, ap, ap₂, subst, ◌∙◌, arith}
 use Rattle.std.proofs.lemmas.List.{length-set, get_or-set_other, drop-drop, length-drop}
 use Rattle.std.proofs.Math.Nat.{mul-div_cancel, mul-mod_left}
 use Rattle.field_map.specs.declared.place.Place.{Place}
 use Rattle.field_map.specs.Pairs.{Pairs}
-use Rattle.frame_cut.specs.declared.file_head.Head.{Head}
 use Rattle.frame_cut.specs.Cuts.{IsCut, IsTrace}
 use Rattle.frame_cut.specs.Frames.{extensions_of}
 use Rattle.frame_cut.specs.Parts.{put_each_at, with_each}
 use Rattle.frame_cut.specs.Splice.{splice}
-use Rattle.frame_cut.specs.Traces.{count_of, trace_at, with_trace}
+use Rattle.frame_cut.specs.Traces.{count_of, trace_at}
 use Rattle.frame_cut.specs.Volume.{Volume}
 use Rattle.trace_store.specs.Each.{part_of}
-use Rattle.trace_store.specs.Swapped.{with_swapped, with_places_swapped}
-use Rattle.trace_view.specs.Values.{samples_at}
+use Rattle.trace_store.specs.Swapped.{with_places_swapped}
 use Rattle.volume_records.specs.OfVolume.{AreHeaderParts}
 use Rattle.edit_overlay.specs.CountedVolume.{RisesAtMost}
 use Rattle.bench_rules.specs.declared.chosen_edit.ChosenEdit.TheVariants as each
@@ -29,49 +25,17 @@ use Rattle.bench_rules.specs.Places.{place_in_trace}
 use Rattle.bench_rules.specs.ReadFaults.{IsReadRefusal}
 use Rattle.bench_rules.specs.State.{State}
 use Rattle.bench_rules.specs.SwappedFields.{changed_each, swap_refusal, swapped, two_places}
-use Rattle.bench_rules.proofs.ChosenLemmas.{rising-few}
 use Rattle.bench_rules.proofs.ManyValueLemmas.{IsRead, put_each-none, put_each-step}
-use Rattle.bench_rules.proofs.SwapLemmas.{IsSwapped, StaysWhole, changed_cut, each_swapped, swapped_cut}
+use Rattle.bench_rules.proofs.SwapLemmas.{IsSwapped, each_swapped, swapped_cut}
 use Rattle.many_traces.specs.Spans.{span_size, span_start, AreSwapped, HaveSpan}
 use Rattle.many_traces.proofs.SwappedLemmas.{spans_front}
-use Rattle.chosen_traces.specs.Gathered.{pairs_from, pairs_back}
-use Rattle.chosen_traces.proofs.FrontLemmas.{front-count, front-traces, read-front, with_front}
-use Rattle.chosen_traces.proofs.GatheredLemmas.{changed, changed_in_front, firsts, in_front}
+use Rattle.chosen_traces.specs.Gathered.{pairs_back}
+use Rattle.chosen_traces.proofs.FrontLemmas.{read-front, with_front}
+use Rattle.chosen_traces.proofs.GatheredLemmas.{changed, in_front}
 use Rattle.live_volume.specs.Chosen.{IsRefusedFor}
 use Rattle.live_volume.specs.Held.{with_volume, IsCutAs, IsReadAs}
 use Rattle.live_volume.specs.Refusals.{IsOfMachine}
-
--- ---- one change of each trace
-
--- the change at each position
-abbrev pub changes : (List ℕ → List ℕ) → List ℕ → List (ℕ × (List ℕ → List ℕ))
-changes change ps = map (λ p. (p, change)) ps
-
-firsts-changes : (change : List ℕ → List ℕ) (ps : List ℕ) → firsts [] (changes change ps) ≡ ps
-firsts-changes change [] = refl
-firsts-changes change (p ∷ ps) = ap (λ (qs : List ℕ). p ∷ qs) (firsts-changes change ps)
-
--- those from a position on
-front-changes : (change : List ℕ → List ℕ) (k : ℕ) (ps : List ℕ) → in_front [] k (changes change ps) ≡ changes change (range_with_len k (length ps))
-front-changes change k [] = refl
-front-changes change k (p ∷ ps) = ap (λ (es : List (ℕ × (List ℕ → List ℕ))). (k, change) ∷ es) (front-changes change (k + 1) ps)
-
-changed-volume : (change : List ℕ → List ℕ) (v : Volume) (ps : List ℕ) → changed_each change v ps ≡ record v { traces = changed [] (changes change ps) v.traces }
-changed-volume change v [] = refl
-changed-volume change v (p ∷ ps) = changed-volume change (with_trace v p (change (trace_at v p))) ps
-
-range-rising : (k m n : ℕ) → k + m ≤ n + 1 → AreRising k n (range_with_len k m)
-range-rising k zero n within = tt
-range-rising k (suc m) n within = (omega arith, omega (arith, within), range-rising (k + 1) m n (omega (arith, within)))
-
-range-at : (k m i : ℕ) → i < m → get_or (range_with_len k m) i 0 ≡ k + i
-range-at k zero i less = absurd (omega (arith, less))
-range-at k (suc m) zero less = omega arith
-range-at k (suc m) (suc i) less = range-at (k + 1) m i (omega (arith, less)) ∙ (let e : k + 1 + i ≡ k + suc i = omega arith in e)
-
-range-long : (k m : ℕ) → length (range_with_len k m) ≡ m
-range-long k zero = refl
-range-long k (suc m) = ap suc (range-long (k + 1) m)
+use Rattle.live_volume.proofs.ChangedLemmas.{changed_state, changes, front_room, in_front_is, laid_cut}
 
 -- ---- bytes laid over each
 
@@ -128,9 +92,6 @@ module _ (s : State) (places : Place × Place) (ps bs : List ℕ) (up : AreRisin
   abbrev front : State
   front = with_front s ps
 
-  few : n ≤ count_of v
-  few = omega (arith, rising-few 1 (count_of v) ps (omega arith) up)
-
   -- the bytes are as many parts as there are traces
   pub some_bytes : 0 < size
   some_bytes = (have 0 some).0
@@ -142,20 +103,17 @@ module _ (s : State) (places : Place × Place) (ps bs : List ℕ) (up : AreRisin
   parts_exact = rw long (mul-mod_left n size)
 
   pub parts_last : 1 - 1 + n ≤ count_of front.volume
-  parts_last = omega (arith, few, front-count s ps up some)
-
-  in-front : (k : ℕ) → k < n → get_or front.volume.traces (1 - 1 + k) [] ≡ trace_at v (get_or ps k 0)
-  in-front k less = let place : 1 - 1 + k ≡ 1 + k - 1 = omega arith in ap (λ (i : ℕ). get_or front.volume.traces i []) place ∙ front-traces s ps up some k less
+  parts_last = front_room s ps up some
 
   pub parts_inside : (k : ℕ) → k < length bs / size → at + size ≤ length (get_or front.volume.traces (1 - 1 + k) [])
-  parts_inside k less = let here : k < n = omega (arith, less, parts_many) in subst (λ (t : List ℕ). at + size ≤ length t) (sym (in-front k here)) (have k here).1
+  parts_inside k less = let here : k < n = omega (arith, less, parts_many) in subst (λ (t : List ℕ). at + size ≤ length t) (sym (in_front_is s ps up some k here)) (have k here).1
 
   module _ (read : IsRead s) (are : AreSwapped v places ps bs) (none : first_at (λ p. swap_refusal v.head places (trace_at v p)) ps ≡ None) where
     own : (k : ℕ) → k < n → IsSwapped v.head places (get_or front.volume.traces (1 - 1 + k) [])
-    own k less = subst (IsSwapped v.head places) (sym (in-front k less)) (each_swapped s places ps read up none k less)
+    own k less = subst (IsSwapped v.head places) (sym (in_front_is s ps up some k less)) (each_swapped s places ps read up none k less)
 
     over : (k : ℕ) → k < n → splice (get_or front.volume.traces (1 - 1 + k) []) at size (part_of bs size k) ≡ change (get_or front.volume.traces (1 - 1 + k) [])
-    over k less = subst (λ (t : List ℕ). splice t at size (part_of bs size k) ≡ change t) (sym (in-front k less)) (are k less)
+    over k less = subst (λ (t : List ℕ). splice t at size (part_of bs size k) ≡ change t) (sym (in_front_is s ps up some k less)) (are k less)
 
     there : (k : ℕ) → k < length bs / size → k < n
     there k less = omega (arith, less, parts_many)
@@ -175,48 +133,18 @@ module _ (s : State) (places : Place × Place) (ps bs : List ℕ) (up : AreRisin
     laid : (with_each front.volume 1 at size bs).traces ≡ changed [] (in_front [] 1 (changes change ps)) front.volume.traces
     laid = laid-changed change at size 1 ps bs front.volume.traces some_bytes (omega arith) long parts_last over
 
-    -- they are those from the first on, changed
-    laid-volume : with_each front.volume 1 at size bs ≡ changed_each change front.volume (range_with_len 1 n)
-    laid-volume =
-        ap (λ (ts : List (List ℕ)). let w : Volume = record front.volume { traces = ts } in w)
-        (laid ∙ ap (λ (es : List (ℕ × (List ℕ → List ℕ))). changed [] es front.volume.traces) (front-changes change 1 ps))
-        ∙ sym (changed-volume change front.volume (range_with_len 1 n))
-
-    stays : (i : ℕ) → i < length (range_with_len 1 n) → StaysWhole front.volume.head change (trace_at front.volume (get_or (range_with_len 1 n) i 0))
-    stays i less =
-        let here : i < n = omega (arith, less, range-long 1 n) in
-        let place : 1 + i - 1 ≡ 1 - 1 + i = omega arith in
-        let same : trace_at front.volume (get_or (range_with_len 1 n) i 0) ≡ get_or front.volume.traces (1 - 1 + i) [] =
-        ap (λ (q : ℕ). trace_at front.volume q) (range-at 1 n i here) ∙ ap (λ (j : ℕ). get_or front.volume.traces j []) place in
-        let o = own i here in
-        subst (StaysWhole v.head change) (sym same) (record { long = o.long; whole = o.whole })
-
     pub front_cut : IsCutAs front (with_each front.volume 1 at size bs)
-    front_cut =
-        subst (IsCutAs front) (sym laid-volume)
-        (changed_cut s.reading s.limits change front.volume 1 (range_with_len 1 n) (omega arith) (read-front s ps read up) (range-rising 1 n (count_of front.volume) (omega (arith, parts_last))) stays)
-
-    -- once all are brought back
-    pub swapped_back : with_places_swapped (with_each front.volume 1 at size bs) (pairs_back 1 ps) ≡ changed_each change v ps
-    swapped_back =
-        let named : firsts [] (changes change ps) ≡ ps = firsts-changes change ps in
-        let back : with_swapped (changed [] (in_front [] 1 (changes change ps)) front.volume.traces) (pairs_back 1 ps) ≡ changed [] (changes change ps) v.traces =
-        ap (λ (qs : List ℕ). with_swapped (changed [] (in_front [] 1 (changes change ps)) (with_swapped v.traces (pairs_from 1 qs))) (pairs_back 1 qs)) (sym named)
-        ∙ changed_in_front [] (changes change ps) v.traces 1 (omega arith) (subst (AreRising 1 (count_of v)) (sym named) up) in
-        ap (λ (ts : List (List ℕ)). let w : Volume = record v { traces = with_swapped ts (pairs_back 1 ps) } in w) laid
-        ∙ ap (λ (ts : List (List ℕ)). let w : Volume = record v { traces = ts } in w) back
-        ∙ sym (changed-volume change v ps)
+    front_cut = laid_cut s ps up some change (with_each front.volume 1 at size bs).traces laid read (λ k less. let o = own k less in record { long = o.long; whole = o.whole })
 
     -- the state behind the edit
     pub swapped_state : (s1 s2 s3 : State) (from wide : ℕ) → s1 ≡ front → s2 ≡ with_volume s1 (with_each s1.volume 1 from wide bs) → from ≡ at → wide ≡ size
         → s3 ≡ record s2 { volume = with_places_swapped s2.volume (pairs_back 1 ps) } → s3 ≡ with_volume s (changed_each change v ps)
     swapped_state s1 s2 s3 from wide in-front-of done from-is wide-is back =
-        back
-        ∙ ap (λ (u : State). let w : State = record u { volume = with_places_swapped u.volume (pairs_back 1 ps) } in w)
+        changed_state s ps up some change (with_each front.volume 1 at size bs).traces laid s2 s3
         (done
         ∙ ap (λ (u : State). with_volume u (with_each u.volume 1 from wide bs)) in-front-of
         ∙ ap₂ (λ (i : ℕ) (j : ℕ). with_volume front (with_each front.volume 1 i j bs)) from-is wide-is)
-        ∙ ap (λ (w : Volume). with_volume s w) swapped_back
+        back
 
 -- ---- what is read, and told
 

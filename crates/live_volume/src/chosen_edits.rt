@@ -1,7 +1,7 @@
 // Edits of the traces that conditions choose. Numbers are given to them by the edits of traces that
 // follow one another: they are brought to the front of the file, in their order, and afterwards all
 // back to where they stood.
-ghost use Rattle.std.specs.Prelude.{◌≡◌, ◌*◌, ◌<◌, length, true, None, is_some, IsTrue, IfOk, IfErr, OnOk, OnErr};
+ghost use Rattle.std.specs.Prelude.{◌≡◌, ◌*◌, ◌<◌, [], length, true, None, is_some, IsTrue, IfOk, IfErr, OnOk, OnErr};
 ghost use Rattle.frame_cut.specs.Cuts.{IsCut};
 ghost use Rattle.frame_cut.specs.Traces.{count_of};
 ghost use Rattle.edit_overlay.specs.CountedVolume.{RisesAtMost};
@@ -95,6 +95,7 @@ impl LiveVolume {
             ChosenEdit::Swap(first, second) => {
                 self.place_in_trace(first).is_some() && self.place_in_trace(second).is_some()
             }
+            ChosenEdit::Fill { .. } => true,
         }
     }
 
@@ -120,7 +121,10 @@ impl LiveVolume {
     {
         self.stands();
         if traces.is_empty() {
-            return Ok(());
+            return match self.refusal_of_none(edit) {
+                Some(refusal) => Err(refusal),
+                None => Ok(()),
+            };
         }
         match edit {
             ChosenEdit::Nothing(_) => Ok(()),
@@ -139,6 +143,21 @@ impl LiveVolume {
                 Ok(())
             }
             ChosenEdit::Swap(first, second) => self.swap_each(alloc, traces, first, second),
+            ChosenEdit::Fill {
+                first_sample,
+                last_sample,
+                value,
+            } => self.fill_each(alloc, traces, *first_sample, *last_sample, *value),
+        }
+    }
+
+    // What the edit refuses where no trace is chosen: a value for samples, E12 and E04.
+    fn refusal_of_none(&self, edit: &ChosenEdit) -> Option<Refusal>
+        ensures { result ≡ refusal_of_edit self.now.state.volume self.now.state.fields edit.now [] }
+    {
+        match edit {
+            ChosenEdit::Fill { value, .. } => self.sample_value_refusal(*value),
+            _ => None,
         }
     }
 

@@ -28,6 +28,7 @@ mod block_edit;
 mod chosen_edits;
 mod computed_edits;
 mod declaring;
+mod fill_edit;
 mod kept_slices;
 mod live_volume;
 mod mappings;

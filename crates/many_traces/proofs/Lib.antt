@@ -3,6 +3,7 @@ mod ListedRowsLemmas
 pub mod FormulaLemmas
 pub mod NumbersLemmas
 pub mod SwappedLemmas
+mod FillingLemmas
 mod NearLemmas
 mod BlockLemmas
 pub mod ExchangeLemmas

@@ -1,7 +1,7 @@
 // The commands and their forms.
 
 /// The first words of the commands.
-pub static COMMANDS: [&str; 44] = [
+pub static COMMANDS: [&str; 45] = [
     "set",
     "get",
     "bin",
@@ -24,6 +24,7 @@ pub static COMMANDS: [&str; 44] = [
     "info",
     "sample",
     "patch",
+    "fill",
     "blank",
     "copy",
     "delete",
@@ -50,7 +51,7 @@ pub static COMMANDS: [&str; 44] = [
 
 // Their forms, in the same order: `all` stands for P and Q. They are searched: a `match` of so many
 // texts takes minutes to prove.
-static FORMS: [&str; 44] = [
+static FORMS: [&str; 45] = [
     "set P [Q] FIELD NUMBER [where A OP B ..]",
     "get P FIELD",
     "bin FIELD NUMBER",
@@ -73,6 +74,7 @@ static FORMS: [&str; 44] = [
     "info",
     "sample P K",
     "patch P K NUMBER ..",
+    "fill P Q FROM TO NUMBER [where A OP B ..]",
     "blank P",
     "copy Q P",
     "delete P [Q] [where A OP B ..]",

@@ -28,6 +28,7 @@ fn may_have_conditions(command: &[u8]) -> bool {
             | b"count"
             | b"stats"
             | b"swap"
+            | b"fill"
     )
 }
 

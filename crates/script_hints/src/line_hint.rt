@@ -88,6 +88,10 @@ fn wrong_words(words: &Words) -> Hint {
         b"table" if !words.at(3).is_empty() => Hint::Text("a table has at most 64 fields"),
         b"compute" => text_or_form(operations_hint(words), words),
         b"sort" if !words.at(3).is_empty() => Hint::Text("a sort is by at most 8 fields"),
+        b"stat" if words.count() == 3 => Hint::Text("of many traces it is stats P Q"),
+        b"fill" if words.count() == 5 && !is_word(words, 2, b"last") => {
+            Hint::Text("of one trace it is fill P P FROM TO NUMBER")
+        }
         _ => form_of(words),
     }
 }
@@ -131,8 +135,17 @@ fn wrong_number(words: &Words) -> Hint {
             hint => hint,
         },
         b"map" => Hint::Text("FIELD is a place, as @189:4, or a name, as source_x"),
+        b"stat" if words.count() == 3 => Hint::Text("of many traces it is stats P Q"),
+        b"fill" if is_word(words, 3, b"last") || is_word(words, 4, b"last") => {
+            Hint::Text("last is a trace: FROM and TO are samples, and count from 0")
+        }
         _ => place_or_form(words),
     }
+}
+
+// Whether this one of the words, counted from 0, is that.
+fn is_word(words: &Words, number: usize, word: &[u8]) -> bool {
+    words.at(number) == word
 }
 
 fn place_or_form(words: &Words) -> Hint {
@@ -218,6 +231,7 @@ fn is_of_range(command: &[u8]) -> bool {
             | b"delete"
             | b"count"
             | b"stats"
+            | b"fill"
             | b"move"
     )
 }

@@ -14,10 +14,10 @@ use Rattle.script_words.specs.declared.command.Command.TheVariants.{Apply, Ask}
 use Rattle.script_words.specs.declared.line_fault.LineFault.{LineFault}
 use Rattle.script_words.specs.declared.line_fault.LineFault.TheVariants.{Words, Number, OutOfMemory}
 use Rattle.script_words.specs.declared.range_command.RangeCommand.{RangeCommand}
-use Rattle.script_words.specs.declared.range_command.RangeCommand.TheVariants.{Table, Find, Extremes, Set, Renumber, Compute, Delete, Count, Stats, Swap}
+use Rattle.script_words.specs.declared.range_command.RangeCommand.TheVariants.{Table, Find, Extremes, Set, Renumber, Compute, Delete, Count, Stats, Swap, Fill}
 use Rattle.script_words.specs.Conditions.{has_conditions, conditions_of}
 use Rattle.script_words.specs.HeaderCommands.{is_field_count, is_step_count}
-use Rattle.script_words.specs.Numbers.{number_of, trace_of}
+use Rattle.script_words.specs.Numbers.{number_of, position_of, sample_number, trace_of}
 use Rattle.script_words.specs.RangeCommands.{read_each}
 use Rattle.script_words.specs.Ranges.{is_of_none, spelled, of_range, of_conditions, by_conditions, under, read_under, has_range, edit_parts, query_parts, chosen_of}
 use Rattle.script_words.specs.Readers.{two, four, five, two_and_list, four_and_list, field_of, operand_of, fields_of, steps_of}
@@ -96,6 +96,7 @@ each_of_range traces Delete ws = two_of_range (trace_of traces) (trace_of traces
 each_of_range traces Count ws = two_of_range (trace_of traces) (trace_of traces) (trace_of traces) (trace_of traces) (trace_of traces) _ (λ a b. refl) ws
 each_of_range traces Stats ws = two_of_range (trace_of traces) (trace_of traces) (trace_of traces) (trace_of traces) (trace_of traces) _ (λ a b. refl) ws
 each_of_range traces Swap ws = four_of_range (trace_of traces) (trace_of traces) field_of field_of field_of _ (λ a b k l. refl) ws
+each_of_range traces (Fill floats) ws = five_of_range (trace_of traces) (trace_of traces) position_of position_of (sample_number floats) _ (λ a b k l m. refl) ws
 
 -- ---- memory of commands on chosen traces
 

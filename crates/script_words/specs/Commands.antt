@@ -21,7 +21,8 @@ use Rattle.float_codes.specs.declared.float_format.FloatFormat.{FloatFormat}
 use Rattle.script_words.specs.MapCommands.{read_map}
 use Rattle.script_words.specs.MoveCommands.{read_move}
 use Rattle.script_words.specs.Readers.{Reader, name_of, field_of, alone, one, two, one_and_text, two_and_numbers, tail_of}
-use Rattle.script_words.specs.RangeCommands.{header_commands}
+use Rattle.script_words.specs.declared.range_command.RangeCommand.TheVariants.{Fill}
+use Rattle.script_words.specs.RangeCommands.{header_commands, read_ranged}
 
 -- ---- the commands
 
@@ -117,6 +118,7 @@ commands floats traces rest =
     ∷ (codes "info", read_info)
     ∷ (codes "sample", read_sample traces)
     ∷ (codes "patch", read_patch floats traces)
+    ∷ (codes "fill", read_ranged traces (Fill floats))
     ∷ (codes "blank", read_blank traces)
     ∷ (codes "copy", read_copy traces)
     ∷ (codes "move", read_move traces)

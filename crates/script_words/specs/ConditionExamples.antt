@@ -83,6 +83,20 @@ pub all-swap_few : line_result None 9 (codes "swap all sx") ≡ Err Words
 unfolding is_utf8 chars encode_utf8
 all-swap_few = refl
 
+-- `all` stands for both traces, and five words are needed; samples are counted from 0
+pub all-fill : line_result None 9 (codes "fill all 0 99 -5") ≡ Ok (Some (Apply (edits.OfChosen (those (Some (1, 9)) []) (chosen_edits.Fill 0 99 (negsuc 4)))))
+unfolding is_utf8 chars encode_utf8
+all-fill = refl
+
+pub each-fill_few : line_result None 9 (codes "fill 1 last 0 99") ≡ Err Words
+unfolding is_utf8 chars encode_utf8
+each-fill_few = refl
+
+-- of whole numbers a decimal is none
+pub each-fill_decimal : line_result None 9 (codes "fill 1 last 0 99 0.5") ≡ Err Number
+unfolding is_utf8 chars encode_utf8
+each-fill_decimal = refl
+
 pub one-delete : line_result None 9 (codes "delete 2") ≡ Ok (Some (Apply (edits.Delete 2)))
 unfolding is_utf8 chars encode_utf8
 one-delete = refl
@@ -144,6 +158,10 @@ where-delete = refl
 pub where-swap : line_result None 9 (codes "swap all sx gx where cdp = 5") ≡ Ok (Some (Apply (edits.OfChosen (those (Some (1, 9)) (when (codes "cdp") Equal (pos 5) ∷ [])) (chosen_edits.Swap (named (codes "sx")) (named (codes "gx"))))))
 unfolding is_utf8 chars encode_utf8
 where-swap = refl
+
+pub where-fill : line_result None 0 (codes "fill all 0 99 7 where cdp = 5") ≡ Ok (Some (Apply (edits.OfChosen (those None (when (codes "cdp") Equal (pos 5) ∷ [])) (chosen_edits.Fill 0 99 (pos 7)))))
+unfolding is_utf8 chars encode_utf8
+where-fill = refl
 
 pub where-count : line_result None 9 (codes "count 2 5 where cdp = 5") ≡ Ok (Some (Ask (queries.OfChosen (those (Some (2, 5)) (when (codes "cdp") Equal (pos 5) ∷ [])) chosen_queries.Count)))
 unfolding is_utf8 chars encode_utf8

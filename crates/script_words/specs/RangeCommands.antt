@@ -1,5 +1,5 @@
 -- The commands on a range of traces, from the words of a line.
-use Rattle.std.specs.Prelude.{ℕ, pos, ◌||◌, ◌==◌, List, [], ◌∷◌, Some, length, codes, if◌then◌else◌}
+use Rattle.std.specs.Prelude.{ℕ, pos, ◌||◌, ◌==◌, List, [], ◌∷◌, Option, Some, length, codes, if◌then◌else◌}
 use Rattle.bench_rules.specs.declared.chosen_edit.ChosenEdit.TheVariants as chosen_edits
 use Rattle.bench_rules.specs.declared.chosen_query.ChosenQuery.TheVariants as chosen_queries
 use Rattle.bench_rules.specs.declared.edit.Edit.TheVariants as edits
@@ -7,9 +7,10 @@ use Rattle.bench_rules.specs.declared.query.Query.TheVariants as queries
 use Rattle.script_words.specs.declared.command.Command.{Command}
 use Rattle.script_words.specs.declared.command.Command.TheVariants.{Apply, Ask}
 use Rattle.script_words.specs.declared.range_command.RangeCommand.{RangeCommand}
-use Rattle.script_words.specs.declared.range_command.RangeCommand.TheVariants.{Table, Find, Extremes, Set, Renumber, Compute, Delete, Count, Stats, Swap}
+use Rattle.script_words.specs.declared.range_command.RangeCommand.TheVariants.{Table, Find, Extremes, Set, Renumber, Compute, Delete, Count, Stats, Swap, Fill}
 use Rattle.script_words.specs.HeaderCommands.{read_table, read_find, read_extremes, read_compute, read_header, read_sort}
-use Rattle.script_words.specs.Numbers.{number_of, trace_of}
+use Rattle.float_codes.specs.declared.float_format.FloatFormat.{FloatFormat}
+use Rattle.script_words.specs.Numbers.{number_of, position_of, sample_number, trace_of}
 use Rattle.script_words.specs.Ranges.{is_all, of_range, ranged}
 use Rattle.script_words.specs.Readers.{Reader, field_of, alone, one, two, three, four, five}
 use Rattle.script_words.specs.ReportCommands.{report_commands}
@@ -39,6 +40,11 @@ abbrev pub read_swap : ℕ → Reader Command
 read_swap traces =
     four (trace_of traces) (trace_of traces) field_of field_of (λ a b first second. Apply (edits.OfChosen (record { traces = Some (a, b); conditions = [] }) (chosen_edits.Swap first second)))
 
+-- `fill P Q FROM TO NUMBER`; the format of samples that are floats comes first
+abbrev pub read_fill : Option FloatFormat → ℕ → Reader Command
+read_fill floats traces =
+    five (trace_of traces) (trace_of traces) position_of position_of (sample_number floats) (λ a b first last value. Apply (edits.OfChosen (record { traces = Some (a, b); conditions = [] }) (chosen_edits.Fill first last value)))
+
 -- `count`
 abbrev pub read_count : Reader Command
 read_count = alone (Ask queries.Count)
@@ -63,6 +69,7 @@ read_each traces Delete = read_delete_each traces
 read_each traces Count = read_count_each traces
 read_each traces Stats = read_stats_each traces
 read_each traces Swap = read_swap traces
+read_each traces (Fill floats) = read_fill floats traces
 
 -- `set` without conditions: of one trace, or of a range where `all` or the number of words tells one
 abbrev pub read_set : ℕ → Reader Command

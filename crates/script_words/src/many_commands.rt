@@ -1,18 +1,19 @@
-// The commands that set a field of many traces, delete them, count them or ask what their samples
-// say: `all` stands for the two words of their range.
+// The commands that set a field or samples of many traces, delete them, count them or ask what
+// their samples say: `all` stands for the two words of their range.
 ghost use Rattle.std.specs.Prelude.{◌≡◌};
 ghost use Rattle.script_words.specs.Words.{words_of};
 ghost use Rattle.script_words.specs.Ranges.{spelled};
-ghost use Rattle.script_words.specs.RangeCommands.{read_set_one, read_set_each, read_renumber, read_delete_one, read_delete_each, read_count_each, read_stats_each};
+ghost use Rattle.script_words.specs.RangeCommands.{read_set_one, read_set_each, read_renumber, read_delete_one, read_delete_each, read_count_each, read_stats_each, read_fill};
 ghost use Rattle.script_words.specs.Commands.{IsRead};
 
 use crate::command::Command;
 use crate::fields::field;
 use crate::line_fault::LineFault;
-use crate::numbers::{number, trace};
+use crate::numbers::{number, position, sample, trace};
 use crate::parse::{one, range_alone, range_and_three, range_and_two, three};
 use crate::words::Words;
 use bench_rules::{Chosen, ChosenEdit, ChosenQuery, Edit, Items, Query};
+use float_codes::FloatFormat;
 use std::alloc::Global;
 
 pub(crate) fn set_one(alloc: Global, traces: u32, words: Words) -> Result<Command, LineFault>
@@ -105,4 +106,32 @@ pub(crate) fn stats_each(alloc: Global, traces: u32, words: Words) -> Result<Com
         conditions: Items::new(Vec::new(alloc)),
     };
     Ok(Command::Ask(Query::OfChosen(chosen, ChosenQuery::Stats)))
+}
+
+/// The value of samples that are floats, of the format that comes first where they are, may be a
+/// decimal.
+pub(crate) fn fill_each(
+    alloc: Global,
+    floats: Option<FloatFormat>,
+    traces: u32,
+    words: Words,
+) -> Result<Command, LineFault>
+    ensures { result ≡ read_fill floats traces (spelled (words_of words.entry)) }
+{
+    let (a, b, first, last, value) = range_and_three(words).ok_or(LineFault::Words)?;
+    let a = trace(traces, a).ok_or(LineFault::Number)?;
+    let b = trace(traces, b).ok_or(LineFault::Number)?;
+    let last_sample = position(last).ok_or(LineFault::Number)?;
+    let value = sample(floats, value).ok_or(LineFault::Number)?;
+    let first_sample = position(first).ok_or(LineFault::Number)?;
+    let chosen = Chosen {
+        traces: Some((a, b)),
+        conditions: Items::new(Vec::new(alloc)),
+    };
+    let edit = ChosenEdit::Fill {
+        first_sample,
+        last_sample,
+        value,
+    };
+    Ok(Command::Apply(Edit::OfChosen(chosen, edit)))
 }

@@ -14,6 +14,8 @@ use crate::line_fault::LineFault;
 use crate::map_command::map;
 use crate::move_command::move_traces;
 use crate::numbers::{number, position, trace};
+use crate::range_command::RangeCommand;
+use crate::ranges::ranged;
 use crate::trace_commands::{blank, copy, patch, resize};
 use crate::words::Words;
 use bench_rules::{Edit, Query};
@@ -76,6 +78,7 @@ fn command(
         "info" => query_alone(words, Query::Info),
         "sample" => sample(traces, words),
         "patch" => patch(alloc, floats, traces, words),
+        "fill" => ranged(alloc, traces, RangeCommand::Fill(floats), words),
         "blank" => blank(traces, words),
         "copy" => copy(traces, words),
         "move" => move_traces(traces, words),

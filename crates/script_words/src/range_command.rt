@@ -1,3 +1,5 @@
+use float_codes::FloatFormat;
+
 /// A command on a range of traces, which conditions may stand behind.
 #[derive(Clone, Copy, Debug, PartialEq, Eq)]
 pub(crate) enum RangeCommand {
@@ -11,4 +13,7 @@ pub(crate) enum RangeCommand {
     Count,
     Stats,
     Swap,
+
+    /// The format of samples, where they are floats, tells how a value is read.
+    Fill(Option<FloatFormat>),
 }

@@ -13,7 +13,7 @@ use crate::conditions::{conditions, fault_without_memory, has_conditions, split_
 use crate::header_commands::{extremes, find, table};
 use crate::line_fault::LineFault;
 use crate::many_commands::{
-    count_each, delete_each, delete_one, renumber, set_each, set_one, stats_each,
+    count_each, delete_each, delete_one, fill_each, renumber, set_each, set_one, stats_each,
 };
 use crate::parse::query_alone;
 use crate::range_command::RangeCommand;
@@ -86,6 +86,7 @@ fn each(alloc: Global, traces: u32, which: RangeCommand, words: Words) -> Result
         RangeCommand::Count => count_each(alloc, traces, words),
         RangeCommand::Stats => stats_each(alloc, traces, words),
         RangeCommand::Swap => swap_each(alloc, traces, words),
+        RangeCommand::Fill(floats) => fill_each(alloc, floats, traces, words),
     }
 }
 

@@ -1,6 +1,7 @@
 pub mod OneRunLemmas
 pub mod AheadLemmas
 pub mod EachLemmas
+pub mod OverLemmas
 pub mod FallLemmas
 pub mod FetchLemmas
 pub mod GrownLemmas

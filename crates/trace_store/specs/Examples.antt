@@ -3,6 +3,7 @@ use Rattle.std.specs.Prelude.{ℕ, ◌≡◌, List, [], ◌∷◌, refl}
 use Rattle.trace_view.specs.declared.run.Run.{Run}
 use Rattle.trace_store.specs.declared.base.Base.TheVariants.{Loaded}
 use Rattle.trace_store.specs.declared.layers.Kind.TheVariants as kind
+use Rattle.trace_store.specs.Each.{put_over}
 use Rattle.trace_store.specs.Layers.{layers_of_kind, laid_over}
 use Rattle.trace_store.specs.Moved.{with_moved}
 use Rattle.trace_store.specs.Swapped.{with_swapped}
@@ -41,3 +42,7 @@ short-layers = refl
 
 pub laid-layers : (runs : List Run) → laid_over (layers_of_kind (kind.Short 260 3600)) runs ≡ record { base = Loaded (record { start = 3600; length = 260 }); runs = runs }
 laid-layers runs = refl
+
+-- two bytes over the second and the third of four traces, from the first byte of the one and from the second of the other
+pub over_two_at : put_over ((1 ∷ 2 ∷ []) ∷ (3 ∷ 4 ∷ 5 ∷ []) ∷ (6 ∷ 7 ∷ 8 ∷ []) ∷ (9 ∷ []) ∷ []) 1 (0 ∷ 1 ∷ []) (0 ∷ 0 ∷ []) ≡ (1 ∷ 2 ∷ []) ∷ (0 ∷ 0 ∷ 5 ∷ []) ∷ (6 ∷ 0 ∷ 0 ∷ []) ∷ (9 ∷ []) ∷ []
+over_two_at = refl

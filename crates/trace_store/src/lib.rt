@@ -24,6 +24,7 @@ mod base;
 mod column;
 mod deleting;
 mod layers;
+mod laying;
 mod out_of_memory;
 mod parts;
 mod payloads;

@@ -581,7 +581,7 @@ impl<T: Copy> TraceStore<T> {
     }
 
     // The runs of trace p with the bytes laid over it from place `at` on, counted from 0.
-    fn runs_with(
+    pub(crate) fn runs_with(
         &self,
         alloc: Global,
         p: u32,

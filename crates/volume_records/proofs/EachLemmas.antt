@@ -111,7 +111,7 @@ numbers-facts (r ∷ rs) = ap (λ (ns : List ℕ). r.number ∷ ns) (numbers-fac
 
 -- ---- a list with a part put in its place again
 
-part-again : {T : Type 0} (xs : List T) (p n : ℕ) → take p xs ++ take n (drop p xs) ++ drop (p + n) xs ≡ xs
+pub part-again : {T : Type 0} (xs : List T) (p n : ℕ) → take p xs ++ take n (drop p xs) ++ drop (p + n) xs ≡ xs
 part-again xs p n =
     append_assoc (take p xs) (take n (drop p xs)) (drop (p + n) xs)
     ∙ ap (λ l. take p xs ++ (take n (drop p xs) ++ l)) (sym (drop-drop n p xs))
@@ -119,7 +119,7 @@ part-again xs p n =
     ∙ take-append-drop p xs
 
 -- what is made of each record, where new ones stand in for others
-map-with_records : {T : Type 0} (f : Record → T) (rs : List Record) (p n : ℕ) (new : List Record) → length new ≡ n → map f (with_records rs p new) ≡ take p (map f rs) ++ map f new ++ drop (p + n) (map f rs)
+pub map-with_records : {T : Type 0} (f : Record → T) (rs : List Record) (p n : ℕ) (new : List Record) → length new ≡ n → map f (with_records rs p new) ≡ take p (map f rs) ++ map f new ++ drop (p + n) (map f rs)
 map-with_records f rs p n new long =
     map-append f (take p rs ++ new) (drop (p + length new) rs)
     ∙ ap (λ l. l ++ map f (drop (p + length new) rs)) (map-append f (take p rs) new)

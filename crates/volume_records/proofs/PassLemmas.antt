@@ -1,8 +1,9 @@
 -- The pass that makes the records.
-use Rattle.std.proofs.Common.{◌≡◌, ℕ, ◌+◌, ◌-◌, ◌<◌, ◌≤◌, List, [], ◌∷◌, ◌++◌, length, take, drop, get_or, Some, sym, ap, ap₂, ◌∙◌, arith}
+use Rattle.std.proofs.Common.{◌≡◌, ℕ, ◌+◌, ◌-◌, ◌<◌, ◌≤◌, List, [], ◌∷◌, ◌++◌, length, take, drop, get_or, Some, sym, ap, ap₂, subst, ◌∙◌, arith}
 use Rattle.std.specs.Prelude.{map, slice_get}
 use Rattle.std.specs.List.{zip}
-use Rattle.std.proofs.lemmas.List.{length-map, length-drop, get_or-drop, get_or-map, map-append, take-map, take_more, take_all}
+use borrow.Author.Count.{below_more}
+use Rattle.std.proofs.lemmas.List.{length-map, length-drop, get_or-drop, get_or-map, get_or_append_left, get_or_push, map-append, take-map, take_more, take_all}
 use Rattle.std.proofs.lemmas.Option.{get_or_from_slice_get, slice_get_within}
 use Rattle.std.proofs.lemmas.Slice.Zip.{get_or-zip, length-zip}
 use Rattle.field_map.specs.Pairs.{Pairs}
@@ -31,6 +32,40 @@ one_record_more v fields n old new r there e is grew =
     ∙ map-append facts_of old (r ∷ [])
     ∙ ap₂ (λ (fs : List Facts) (f : Facts). fs ++ f ∷ []) e here
     ∙ sym (first-more (record_of v.head fields) v.traces n [] there)
+
+-- one record more of those from a place on
+pub one_record_behind : (v w : Volume) (fields : Pairs) (p n q : ℕ) (old new : List Record) (r : Record) → w ≡ v → p + n < count_of v → q ≡ p + n + 1 → map facts_of old ≡ take n (drop p (records_of v fields))
+    → facts_of r ≡ record_of w.head fields (trace_at w q) → new ≡ old ++ r ∷ [] → map facts_of new ≡ take (n + 1) (drop p (records_of v fields))
+one_record_behind v w fields p n q old new r same there place e is grew =
+    let all : List Facts = records_of v fields in
+    let made = record_of v.head fields in
+    let spot : q - 1 ≡ p + n = omega (arith, place) in
+    let here : facts_of r ≡ get_or (drop p all) n (facts_of r) =
+    is
+    ∙ ap (λ (u : Volume). record_of u.head fields (trace_at u q)) same
+    ∙ ap (λ k. made (get_or v.traces k [])) spot
+    ∙ sym (get_or-map made v.traces (p + n) [] (facts_of r) there)
+    ∙ sym (get_or-drop p all n (facts_of r)) in
+    ap (map facts_of) grew
+    ∙ map-append facts_of old (r ∷ [])
+    ∙ ap₂ (λ (fs : List Facts) (f : Facts). fs ++ f ∷ []) e here
+    ∙ sym (take_more (drop p all) n (facts_of r) (omega (arith, there, length-drop p all, length-map v.traces made)))
+
+-- and it tells no more samples than its trace has bytes
+pub one_few_more : (v w : Volume) (a n : ℕ) (old new : List Record) (r : Record) → w ≡ v → length old ≡ n → new ≡ old ++ r ∷ [] → r.number ≤ length (trace_at w (a + n))
+    → ((j : ℕ) → j < n → get_or (map (λ (q : Record). q.number) old) j 0 ≤ length (trace_at v (a + j))) → (j : ℕ) → j < n + 1 → get_or (map (λ (q : Record). q.number) new) j 0 ≤ length (trace_at v (a + j))
+one_few_more v w a n old new r same count grew few before =
+    let number = λ (q : Record). q.number in
+    let numbers : List ℕ = map number old in
+    let long : length numbers ≡ n = length-map old number ∙ count in
+    let all : map number new ≡ numbers ++ r.number ∷ [] = ap (map number) grew ∙ map-append number old (r ∷ []) in
+    let last : get_or (map number new) n 0 ≡ r.number = ap (λ (ns : List ℕ). get_or ns n 0) all ∙ get_or_push numbers r.number 0 n long in
+    let here : r.number ≤ length (trace_at v (a + n)) = subst (λ (u : Volume). r.number ≤ length (trace_at u (a + n))) same few in
+    below_more (λ (j : ℕ). get_or (map number new) j 0 ≤ length (trace_at v (a + j))) n
+    (λ (j : ℕ) (less : j < n).
+    let other : get_or (map number new) j 0 ≡ get_or numbers j 0 = ap (λ (ns : List ℕ). get_or ns j 0) all ∙ get_or_append_left numbers (r.number ∷ []) 0 j (omega (arith, less, long)) in
+    omega (arith, other, before j less))
+    (omega (arith, last, here))
 
 -- and all of them
 pub all_records : (v : Volume) (fields : Pairs) (n : ℕ) (rs : List Record) → count_of v ≤ n → map facts_of rs ≡ take n (records_of v fields) → map facts_of rs ≡ records_of v fields

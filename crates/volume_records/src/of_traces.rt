@@ -1,15 +1,15 @@
-ghost use Rattle.std.specs.Prelude.{◌≡◌, ◌+◌, ◌-◌, ◌/◌, ◌%◌, ◌<◌, ◌≤◌, IfOk, IfErr, IsTrue, length, map, take, drop};
-ghost use Rattle.frame_cut.specs.Traces.{count_of};
+ghost use Rattle.std.specs.Prelude.{◌≡◌, ◌+◌, ◌-◌, ◌/◌, ◌%◌, ◌<◌, ◌≤◌, ℕ, IfOk, IfErr, IsTrue, get_or, length, map, take, drop};
+ghost use Rattle.frame_cut.specs.Traces.{count_of, trace_at};
 ghost use Rattle.trace_record.specs.Facts.{facts_of};
 ghost use Rattle.trace_record.specs.Packed.{record_in};
 ghost use Rattle.trace_record.specs.Told.{tells_record};
 ghost use Rattle.edit_overlay.specs.CountedVolume.{IsSeen};
 ghost use Rattle.volume_records.specs.Faults.{IsOfRead};
 ghost use Rattle.volume_records.specs.Laid.{AreLaid};
-ghost use Rattle.volume_records.specs.OfVolume.{headers_of};
+ghost use Rattle.volume_records.specs.OfVolume.{headers_of, records_of};
 
 use crate::RecordsFault;
-use crate::of_trace::laid_headers;
+use crate::of_trace::{laid_headers, prepared_record};
 use edit_overlay::Overlay;
 use field_map::FieldMap;
 use record_table::RecordList;
@@ -66,6 +66,41 @@ pub fn prepared_records(
         let known = overlay.payload(a + k).record();
         let part = part(bytes, size, k as usize);
         let record = laid_headers(overlay, fields, a + k, &known, at, part)?;
+        records.push(&record)?;
+    }
+    Ok(records)
+}
+
+/// The records of so many traces from trace a on, counted from 1, as they would be with the edit
+/// that is prepared, whatever it is. One look at each trace, which reads its samples. Takes memory
+/// for the records; refused for want of it, or on disk where a trace could not be read, and the
+/// volume and what is prepared stay as they are in any case.
+pub fn prepared_whole_records(
+    alloc: Global,
+    overlay: &mut Overlay<PackedRecord>,
+    fields: &FieldMap,
+    a: u32,
+    count: u32,
+) -> Result<RecordList, RecordsFault>
+    requires first { 1 ≤ a }
+    requires last { a - 1 + count ≤ count_of overlay.old.prepared }
+    requires held { a - 1 + count ≤ count_of overlay.old.volume }
+    requires fields { fields.now.extensions ≡ overlay.old.prepared.head.extensions }
+    ensures records { IfOk result (λ records. IsTrue overlay.new.agreed →
+        map facts_of records ≡ take count (drop (a - 1)
+        (records_of overlay.old.prepared fields.now.pairs))) }
+    ensures many { IfOk result (λ records. length records ≡ count) }
+    ensures few { IfOk result (λ records. (k : ℕ) → k < count →
+        get_or (map (λ r. r.number) records) k 0 ≤
+        length (trace_at overlay.old.prepared (a + k))) }
+    ensures seen { IsSeen overlay.old overlay.new count }
+    ensures read { IfErr result (λ fault. IsOfRead fault → IsTrue overlay.old.loaded.on_disk) }
+{
+    // Read for the proof alone, which learns that the traces are counted in 32 bits.
+    let _count = overlay.count();
+    let mut records = RecordList::with_capacity(alloc, count as usize)?;
+    for k in 0..count {
+        let record = prepared_record(overlay, fields, a + k)?;
         records.push(&record)?;
     }
     Ok(records)

@@ -237,6 +237,33 @@ class Contents(Headers):
         told = lines.decimals(values) if self.has_floats else list(map(str, lines.numbers(values)))
         self._edit("patch", position(trace), number(sample), *told)
 
+    def fill(
+        self, first: Optional[int], last: Optional[int], from_sample: int, to_sample: int,
+        value: Any, where: Optional[str] = None
+    ) -> Optional[int]:
+        """Gives the samples from ``from_sample`` to ``to_sample`` (which is among them, and they
+        count from 0) of each of the traces from ``first`` to ``last`` (which is among them, as in
+        ``renumber``) one value, all or none: so a part of them is muted. ``None`` is the first of
+        the file, or its last. In a file of floats the value may be a float, also one of numpy.
+
+        With ``where`` it is of those that meet its conditions (see ``count``), and their number is
+        given back. A trace that lacks one of the samples is a ``Refused``.
+
+        >>> with segywb.open("cube.sgy") as v:
+        ...     v.fill(1, 4, 1, 3, 0)
+        ...     v.samples(1).tolist(), v.samples(4).tolist()
+        ...     v.fill(None, None, 0, 0, -7, where="inline = 102")
+        ...     v.slice(0).rows["value"].tolist()
+        ...     v.edits
+        ([11, 0, 0, 0, 0], [14, 0, 0, 0, 0])
+        4
+        [11, 12, 13, 14, -7, -7, -7, -7, 31, 32, 33, 34]
+        ['fill 1 4 1 3 0', 'fill all 0 0 -7 where inline = 102']
+        """
+        told = lines.decimal(value) if self.has_floats else number(value)
+        ends = (number(from_sample), number(to_sample))
+        return self._edit("fill", between(first, last), *ends, told, where=where)
+
     def declare(self) -> None:
         """Writes what the reading says (``samples``, ``format``, ``texts`` and ``fixed`` of ``segywb.open``) into the binary header, so that the saved file is read without it.
 

@@ -13,12 +13,13 @@ from .engine import Beside, Engine
 from .headers import first_refusal
 from .session import Answers, Batch
 
-# What a line `sample`, a row of an answer to `slice`, a line `delete`, the load of a byte and of a
-# trace and the start of a program take, in microseconds; measured once, since only their ratios
-# matter.
-LINE, ROW, DELETE, BYTE, TRACE, START = 3.0, 0.25, 2.2, 0.0025, 1.0, 20000.0
+# What a line `sample`, a row of an answer to `slice` in memory and on disk, a deleted trace, the
+# load of a byte and of a trace on disk and the start of a program take, in microseconds; measured
+# once, since only their ratios matter.
+LINE, ROW, ROW_ON_DISK, DELETE, BYTE, TRACE, START = 3.0, 0.25, 0.45, 0.8, 0.001, 1.0, 20000.0
 BATCH_LINES = 1 << 14
 BATCH_ROWS = 1 << 16
+LEAST_ROWS = 8  # fewer are no picture
 
 Stream = Callable[[Iterator[Batch]], Answers]
 
@@ -51,31 +52,46 @@ class Reading:
     and ``there`` which rows are read. At first each ``coarse`` row is read, then those between.
 
     The traces are rising positions, each once, of ``count``. ``way`` is in which way they are
-    asked. To be closed where it is not read to its end.
+    asked. Where that begins with a second session, so many samples as ``glance`` says are asked by
+    lines before it, a few of each trace. To be closed where it is not read to its end.
     """
 
-    def __init__(self, engine: Engine, where: Any, count: int, kind: Kind, coarse: int = 1) -> None:
+    def __init__(
+        self, engine: Engine, where: Any, count: int, kind: Kind, coarse: int = 1, glance: int = 0
+    ) -> None:
         np = _numpy()
         self.sizes = lengths(engine, where, kind)
         self.samples = np.zeros((int(self.sizes.max(initial=0)), len(where)), dtype=kind.dtype)
         self.there = np.zeros(len(self.samples), dtype=bool)
         self._engine, self._where, self._count, self._kind = engine, where, count, kind
         rows = np.arange(len(self.samples))
-        self._rows = (
-            np.concatenate([rows[::coarse], rows[rows % coarse != 0]]) if coarse > 1 else rows
-        )
+        self.way = chosen(len(where), int(self.sizes.sum()), len(rows), count, _size(engine.path))
+        step = coarse * max(1, -(-len(rows) * len(where) // (coarse * glance))) if glance else 0
+        seen = step if self.way == "aside" and 0 < step * LEAST_ROWS <= len(rows) else 0
+        parts = [rows % seen == 0] if seen else []
+        parts += [rows % coarse == 0, rows >= 0]
+        self._rows = _each_once(rows, parts)
+        self._glance = int(parts[0].sum()) if seen else 0
         self._at = 0
         self._beside: Optional[Beside] = None
         self._pick: Optional[Any] = None
-        self.way = chosen(len(where), int(self.sizes.sum()), len(rows), count, _size(engine.path))
 
     @property
     def done(self) -> bool:
         """Whether all of it is read."""
         return self._at == len(self._rows)
 
+    @property
+    def begins(self) -> bool:
+        """Whether what is read next begins a second session, which takes its time."""
+        return self.way == "aside" and self._beside is None and not self.done
+
     def more(self, values: Optional[int] = None) -> None:
         """Reads so many samples more, or all that are left."""
+        if values is not None and self._at < self._glance:
+            self._by_lines(self._rows[: self._glance])
+            self._read(self._rows[: self._glance])
+            return
         wide = max(1, self._count if self.way == "slices" else len(self._where))
         rows = (
             self._rows[self._at :]
@@ -86,6 +102,10 @@ class Reading:
             self._by_lines(rows)
         elif self.way != "none":
             self._by_slices(rows)
+        self._read(rows)
+
+    def _read(self, rows: Any) -> None:
+        """These samples are there."""
         self.there[rows] = True
         self._at += len(rows)
         if self.done:
@@ -107,7 +127,7 @@ class Reading:
         return self._beside.stream
 
     def _by_lines(self, rows: Any) -> None:
-        """A line for each sample of each trace."""
+        """A line for each sample of each trace, to the session that there is."""
         np = _numpy()
         sent = [row * len(self._where) + np.flatnonzero(self.sizes > row) for row in rows.tolist()]
         places = np.concatenate(sent) if sent else np.empty(0, dtype=np.int64)
@@ -124,7 +144,7 @@ class Reading:
                     BATCH_LINES, len(trace) - start
                 )
 
-        with closing(self._stream()(batches())) as answers:
+        with closing(self._engine.stream(batches())) as answers:
             for some in answers:
                 text = line_ends.bytes_of(some)
                 ends = np.flatnonzero(text == 10)[::2]
@@ -209,9 +229,26 @@ def chosen(traces: int, samples: int, longest: int, count: int, size: Optional[i
     costs = {"lines": LINE * samples, "slices": ROW * longest * count}
     if size is not None:
         costs["aside"] = (
-            START + BYTE * size + TRACE * count + DELETE * (count - traces) + ROW * longest * traces
+            START
+            + BYTE * size
+            + TRACE * count
+            + DELETE * (count - traces)
+            + ROW_ON_DISK * longest * traces
         )
     return min(costs, key=lambda way: costs[way])
+
+
+def _each_once(rows: Any, parts: List[Any]) -> Any:
+    """The rows of each part (a mask), without those of the parts before it.
+
+    >>> import numpy as np
+    >>> rows = np.arange(7)
+    >>> _each_once(rows, [rows % 4 == 0, rows % 2 == 0, rows >= 0]).tolist()
+    [0, 4, 2, 6, 1, 3, 5]
+    """
+    np = _numpy()
+    first = np.argmax(np.stack(parts), axis=0) if len(rows) else rows
+    return np.argsort(first, kind="stable")
 
 
 def _others(where: Any, count: int) -> Any:
@@ -226,10 +263,20 @@ def _others(where: Any, count: int) -> Any:
 
 
 def _deletions(gone: Any) -> Iterator[Batch]:
-    """The lines that take these traces away, as batches."""
-    for at in range(0, len(gone), BATCH_LINES):
-        some = gone[at : at + BATCH_LINES].tolist()
-        yield ("delete " + "\ndelete ".join(map(str, some)) + "\n").encode(), len(some)
+    """The lines that take these traces away, as batches: one for those that follow one another.
+
+    >>> import numpy as np
+    >>> list(_deletions(np.array([9, 8, 7, 5, 2, 1])))
+    [(b'delete 7 9\\ndelete 5 5\\ndelete 1 2\\n', 3)]
+    """
+    np = _numpy()
+    breaks = np.flatnonzero(np.diff(gone) != -1)
+    lasts = gone[np.concatenate([[0], breaks + 1])] if len(gone) else gone
+    firsts = gone[np.concatenate([breaks, [len(gone) - 1]])] if len(gone) else gone
+    for at in range(0, len(firsts), BATCH_LINES):
+        some = [ends[at : at + BATCH_LINES].tolist() for ends in (firsts, lasts)]
+        made = [f"delete {first} {last}\n" for first, last in zip(*some)]
+        yield "".join(made).encode(), len(made)
 
 
 def _bundled(sent: List[Batch]) -> Iterator[Batch]:

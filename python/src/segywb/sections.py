@@ -110,13 +110,17 @@ class Sections(Reports):
             reading.close()
         return reading.section
 
-    def section_reading(self, traces: Sequence[int], coarse: int = 1) -> "SectionReading":
+    def section_reading(
+        self, traces: Sequence[int], coarse: int = 1, glance: int = 0
+    ) -> "SectionReading":
         """The same in pieces: ``more(values)`` reads so many samples more, ``section`` is what is
         there, and ``done`` tells whether it is whole.
 
         Each ``coarse`` sample is read first, and stands for those behind it until they are there:
-        so a section can be looked at while it is read. To be closed where it is not read to its
-        end, and to be left alone behind an edit.
+        so a section can be looked at while it is read. Where that begins with a second session over
+        the file, so many samples as ``glance`` says are read before it, as far as they are enough
+        for a few of each trace, and ``begins`` tells that it comes next. To be closed where it is
+        not read to its end, and to be left alone behind an edit.
 
         >>> with segywb.open("cube.sgy") as v:
         ...     reading = v.section_reading([9, 1], coarse=5)
@@ -137,7 +141,7 @@ class Sections(Reports):
         step = self._step(where)
         rising, back = np.unique(where, return_inverse=True)
         reading = many_samples.Reading(
-            self._engine, rising, count, Kind(self.sample_type, self.has_floats), coarse
+            self._engine, rising, count, Kind(self.sample_type, self.has_floats), coarse, glance
         )
         shifts, first = self._shifts(where, step)
         return SectionReading(reading, where, back, shifts, first, step)
@@ -208,6 +212,18 @@ class SectionReading:
         return self._reading.way == "lines"
 
     @property
+    def begins(self) -> bool:
+        """Whether what is read next begins a second session over the file, which takes its time.
+
+        >>> with segywb.open("cube.sgy") as v:
+        ...     reading = v.section_reading([1])
+        ...     reading.begins
+        ...     reading.close()
+        False
+        """
+        return self._reading.begins
+
+    @property
     def part(self) -> float:
         """How much of it is read, from 0 to 1.
 
@@ -235,8 +251,10 @@ class SectionReading:
         if not there.all():
             samples = samples[np.maximum.accumulate(np.where(there, np.arange(len(there)), 0))]
         found = np.ascontiguousarray(samples.T)
+        if not np.array_equal(self._back, np.arange(len(found))):
+            found = found[self._back]
         return _placed(
-            found[self._back],
+            found,
             self._reading.sizes[self._back],
             self._shifts,
             self._where,

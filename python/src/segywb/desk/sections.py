@@ -17,6 +17,7 @@ from ..thinning import peaks, starts_of
 from ..volume import Volume
 from .desk import Desk
 from .graphs import span_of
+from .views import MOST_RUNS
 
 STYLES = ("density", "wiggles", "both")
 SIDES = ("now", "both", "difference")
@@ -28,12 +29,14 @@ ROOM = 4  # pixels that a wiggle wants
 MOST_MARKS = 500
 RECORD = "field_record"
 IN_RECORD = "trace_in_record"
-LATER = 4  # behind the first look so many times as much is read until the next one
+LATER = 10  # behind the first look so many times as much is read until the next one
+DRAWN = 0.08  # where a look takes more seconds, as on a busy machine, the next are as much rarer
 COARSE = (
     8  # every so manieth sample is read first, and stands for those behind it until they are there
 )
 PIECE = 1 << 18  # rows of answers that are read at once
 PIECE_ASKED = 1 << 15  # samples that are asked one by one at once
+GLANCE = 1 << 15  # the same for a first look, before a second session begins
 
 
 Key = Tuple[
@@ -153,14 +156,26 @@ class Under(TypedDict):
     value: Optional[str]
 
 
+class Boxed(TypedDict):
+    """What lies in a box of a section: how many traces; the first and the last trace of each run of
+    them, with the first and the last sample; and whether these are all runs.
+    """
+
+    count: int
+    runs: List[List[int]]
+    all: bool
+
+
 class Kept(NamedTuple):
     """A section that was read: the positions of its traces, its samples (``gains.plain``), at which
-    column each trace begins, and its times; and how much of it is there.
+    column each trace begins and how many samples it has, and its times; and how much of it is
+    there.
     """
 
     traces: Any
     values: Any
     begin: Any
+    sizes: Any
     start: float
     step: float
     read: float
@@ -337,6 +352,8 @@ class Sections:
     def __init__(self, seconds: float = float("inf")) -> None:
         """``seconds``: for how long a section is read before what is there is shown."""
         self._seconds = seconds
+        self._glance = GLANCE if seconds < float("inf") else 0
+        self._drawn = 0.0
         self._read: List[Tuple[Key, Kept]] = []
         self._readings: Dict[str, Tuple[Key, Volume, SectionReading]] = {}
         self._made: List[Tuple[Tuple[int, Gain], Tuple[Any, Any], float]] = []
@@ -349,6 +366,7 @@ class Sections:
         samples = int(desk.now().told["info"].split(" samples ")[1].split(" ")[0])
         chosen = choose(now, told, samples)
         sides = self._sides(desk, chosen, look, now, samples)
+        begun = time.monotonic()
         traces, times = max(len(one.traces) for _, one, _ in sides), max(
             one.values.shape[1] for _, one, _ in sides
         )
@@ -381,6 +399,7 @@ class Sections:
             "shots": shots(desk),
             "sides": [one for one, _ in drawn],
         }
+        self._drawn = time.monotonic() - begun
         return answer, b"".join(made for _, made in drawn)
 
     def _sides(
@@ -415,11 +434,12 @@ class Sections:
             if known == (side, *key):
                 return kept
         reading = self._reading(volume, side, key, traces)
-        until = time.monotonic() + self._seconds * (LATER if reading.part else 1)
+        later = LATER * max(1.0, self._drawn / DRAWN)
+        until = time.monotonic() + self._seconds * (later if reading.part else 1)
         try:
             while not reading.done:
                 reading.more(PIECE_ASKED if reading.asked else PIECE)
-                if time.monotonic() >= until:
+                if time.monotonic() >= until or reading.begins:
                     break  # what is there is shown, and the page asks again
         except BaseException:
             self._end(side)
@@ -438,7 +458,7 @@ class Sections:
         if known is not None and known[0] == (side, *key) and known[1] is volume:
             return known[2]
         self._end(side)
-        reading = volume.section_reading(traces, COARSE)
+        reading = volume.section_reading(traces, COARSE, self._glance)
         self._readings[side] = ((side, *key), volume, reading)
         return reading
 
@@ -473,6 +493,16 @@ class Sections:
                     told["sample"], told["value"] = sample, answer.text[len("value ") :]
                 break
         return told
+
+    def boxed(self, desk: Desk, told: Asked, box: Window) -> Boxed:
+        """The samples of what is now that lie in a box of a section, trace by trace."""
+        now = desk.widen([told.field] if told.field else [])[1].mirror
+        samples = int(desk.now().told["info"].split(" samples ")[1].split(" ")[0])
+        chosen = choose(now, told, samples)
+        if chosen.every > 1:
+            few = "choose a section of fewer traces"
+            raise ValueError(f"one trace of {chosen.every} is shown: {few}")
+        return boxed(self._kept(desk, desk.volume, "now", desk.sampled, chosen.traces), box)
 
     def _codes(self, kept: Kept, gain: Gain) -> Tuple[Any, float]:
         """Its samples as bytes under a gain, a row for each time; and where the colours end."""
@@ -543,10 +573,27 @@ def kept_of(found: Section, read: float) -> Kept:
         found.traces,
         gains.plain(found.array),
         begin,
+        there.sum(axis=1),
         float(found.times[0]) if len(found.times) else 0.0,
         step,
         read,
     )
+
+
+def boxed(kept: Kept, box: Window) -> Boxed:
+    """The samples in a box, as runs of traces that follow one another in the file and have the same
+    of theirs in it.
+    """
+    some = slice(max(box.left, 0), max(box.right, 0))
+    first = np.maximum(box.top - kept.begin[some], 0)
+    last = np.minimum(box.bottom - 1 - kept.begin[some], kept.sizes[some] - 1)
+    order = np.argsort(kept.traces[some], kind="stable")
+    order = order[first[order] <= last[order]]
+    rows = np.stack([kept.traces[some], first, last], axis=1)[order]
+    breaks = np.flatnonzero((np.diff(rows, axis=0) != (1, 0, 0)).any(axis=1)) + 1
+    parts = [one for one in np.split(rows, breaks)[:MOST_RUNS] if len(one)]
+    runs = [[int(one[0][0]), *map(int, one[-1])] for one in parts]
+    return {"count": len(rows), "runs": runs, "all": len(breaks) < MOST_RUNS}
 
 
 def difference(now: Kept, was: Kept, origin: Any) -> Kept:

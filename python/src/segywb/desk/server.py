@@ -26,7 +26,7 @@ PLOTLY = "/usr/share/python3-plotly/plotly.js"
 LONGEST_BODY = 40 << 20
 LOOK_SECONDS = 0.1
 ALIVE_SECONDS = 10.0
-READING_SECONDS = 0.12  # a section is shown after so long, as far as it is read
+READING_SECONDS = 0.05  # a section is shown after so long, as far as it is read
 # What reading a body raises: it is no JSON, is nested more deeply than Python reads, or names letters that nobody knows.
 NOT_JSON = (ValueError, RecursionError, LookupError)
 
@@ -122,6 +122,7 @@ class Server:
             "place": lambda q: views.place(desk, number(q, "trace")),
             "spot": lambda q: places.spot(desk, number(q, "first"), number(q, "last")),
             "stands": lambda q: places.stands(desk, number(q, "trace")),
+            "boxed": lambda q: {"version": desk.version, **self._sections.boxed(desk, sections.asked(q), sections.window_of(q))},
             "under": lambda q: dict(self._sections.under(desk, number(q, "trace"), number(q, "column"), q["names"].split())),
         }
 

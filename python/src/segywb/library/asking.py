@@ -47,10 +47,12 @@ def ask(talk: Talk, facts: Facts, report: str) -> Tuple[int, int]:
     columns = facts.columns
     columns.update(
         byte_order=info.order, revision=info.revision, format=info.format, samples=info.samples, fixed=int(info.fixed), extensions=info.extensions,
-        blocks=info.blocks, trailer=info.trailer, traces=info.traces, interval=answers.number(talk.one(), "value"),
+        blocks=info.blocks, trailer=info.trailer, traces=info.traces,
     )
-    for which in WHICH:
-        columns[f"least_{which}"], columns[f"greatest_{which}"] = _span(talk.one())
+    value, *spans = talk.ones(1 + len(WHICH))
+    columns["interval"] = answers.number(value, "value")
+    for which, span in zip(WHICH, spans):
+        columns[f"least_{which}"], columns[f"greatest_{which}"] = _span(span)
     ends = []
     for which in ("inline", "crossline"):
         columns[f"{which}s"], first, last = _lines(talk, which)
@@ -99,9 +101,14 @@ def _block(lines: Iterator[str]) -> str:
     """The lines of a block of text, without the blank ones at its end."""
     head, *told = [*lines] or [""]
     accepted(head)
-    if any([line[:6] != "line |" or line[-1:] != "|" for line in told]):
+    if not told:
+        return ""
+    # A bar stands at both ends of each line, and may stand within one: but no line ends within one.
+    text = "\n".join(told)
+    cut = text[6:-1].split("|\nline |")
+    if text[:6] != "line |" or text[-1:] != "|" or len(cut) != len(told):
         raise answers.unexpected(head)
-    return "\n".join([line[6:-1] for line in told]).rstrip("\n")
+    return "\n".join(cut).rstrip("\n")
 
 
 def _headers(talk: Talk, traces: int) -> List[Tuple[str, int, int, int, int]]:
@@ -151,7 +158,7 @@ def _more(talk: Talk, facts: Facts, info: answers.Info, points: List[int]) -> No
     blocks = range(1, min(info.blocks, MOST_BLOCKS) + 1)
     if info.traces:
         talk.send([f"geometry {at}" for at in points])
-        facts.columns["outline"] = json.dumps(hull([_place(talk.one()) for _ in points]))
+        facts.columns["outline"] = json.dumps(hull([_place(line) for line in talk.ones(len(points))]))
     for block in blocks:
         talk.send([f"lines {block}"])
         facts.texts.append((block, _block(talk.answer())))

@@ -105,23 +105,24 @@ def end(database: sqlite3.Connection, scan: int) -> None:
 
 def put(database: sqlite3.Connection, found: Sequence[Facts], scan: int) -> List[Tuple[bool, int]]:
     """Writes what was found of some files, in one transaction: of each whether it is one of SEG-Y, and its number."""
+    when = (scan, now())
     with transaction(database):
-        return [_put(database, text_of(facts.task.path), facts, scan) for facts in found]
+        return [_put(database, text_of(facts.task.path), facts, when) for facts in found]
 
 
-def _put(database: sqlite3.Connection, path: str, facts: Facts, scan: int) -> Tuple[bool, int]:
+def _put(database: sqlite3.Connection, path: str, facts: Facts, when: Tuple[int, str]) -> Tuple[bool, int]:
     if facts.other:
-        return False, _put_other(database, path, facts, scan)
-    return True, _put_file(database, path, facts, scan)
+        return False, _put_other(database, path, facts, when)
+    return True, _put_file(database, path, facts, when)
 
 
 def _name(path: str) -> str:
     return path.rsplit("/", 1)[-1]
 
 
-def _put_other(database: sqlite3.Connection, path: str, facts: Facts, scan: int) -> int:
+def _put_other(database: sqlite3.Connection, path: str, facts: Facts, when: Tuple[int, str]) -> int:
     columns = facts.columns
-    row: List[Any] = [path, _name(path), facts.other, *(columns[name] for name in OTHER_COLUMNS[3:8]), scan, now()]
+    row: List[Any] = [path, _name(path), facts.other, *(columns[name] for name in OTHER_COLUMNS[3:8]), *when]
     database.execute(_PUT_OTHER, row)
     old = database.execute("SELECT id FROM file WHERE path = ?", (path,)).fetchone()
     if old is not None:
@@ -130,13 +131,15 @@ def _put_other(database: sqlite3.Connection, path: str, facts: Facts, scan: int)
     return int(database.execute("SELECT id FROM other WHERE path = ?", (path,)).fetchone()[0])
 
 
-def _put_file(database: sqlite3.Connection, path: str, facts: Facts, scan: int) -> int:
+def _put_file(database: sqlite3.Connection, path: str, facts: Facts, when: Tuple[int, str]) -> int:
     root = len(text_of(facts.task.path[:facts.task.root]))
-    row: List[Any] = [path, _name(path), root, None, scan, now(), *(facts.columns.get(name) for name in FILLED)]
-    database.execute(_PUT_FILE, row)
+    row: List[Any] = [path, _name(path), root, None, *when, *map(facts.columns.get, FILLED)]
+    old = database.execute("SELECT id FROM file WHERE path = ?", (path,)).fetchone()
+    made = database.execute(_PUT_FILE, row)
     database.execute("DELETE FROM other WHERE path = ?", (path,))
-    number = int(database.execute("SELECT id FROM file WHERE path = ?", (path,)).fetchone()[0])
-    _clear(database, number)
+    number = int(old[0] if old is not None else made.lastrowid or 0)
+    if old is not None:  # nothing stands below the row of a file that is new
+        _clear(database, number)
     database.executemany("INSERT INTO problem VALUES (?, ?, ?)", [(number, *one) for one in facts.problems.items()])
     database.executemany("INSERT INTO header VALUES (?, ?, ?, ?, ?, ?)", [(number, *one) for one in facts.headers])
     database.executemany("INSERT INTO text VALUES (?, ?, ?)", [(number, *one) for one in facts.texts])

@@ -4,6 +4,7 @@ import { ask, picture } from "./api.js";
 import * as canvas from "./canvas.js";
 import { runLine } from "./command.js";
 import { at, fill, many } from "./dom.js";
+import * as mute from "./mute.js";
 import { part, store, whenSpotted } from "./store.js";
 import { columns, goTo } from "./table.js";
 
@@ -187,7 +188,7 @@ function caption() {
   const [left, right, top, bottom] = first.part;
   if (first.columns && (right - left > first.columns || bottom - top > first.rows)) said.push("A pixel shows the sample farthest from zero.");
   if (first.stride > 1 && at("section-style").value !== "density") said.push(`Wiggles of one trace of ${first.stride}: zoom in for all.`);
-  return `${said.join(" ")} The wheel zooms (with Shift the traces alone, with Alt the time), a drag moves, a click goes to the row.`;
+  return `${said.join(" ")} The wheel zooms (with Shift the traces alone, with Alt the time), a drag ${at("section-drag").value === "selects" ? "selects samples" : "moves"}, a click goes to the row.`;
 }
 
 // ---- zoom and pan
@@ -240,6 +241,10 @@ function drag(event) {
   const place = under(event);
   if (!place || event.button) return;
   paper.setPointerCapture(event.pointerId);
+  if (at("section-drag").value === "selects") {
+    select(place);
+    return;
+  }
   const from = { ...view };
   const [x, y] = [event.clientX, event.clientY];
   let far_ = false;
@@ -255,6 +260,49 @@ function drag(event) {
   };
   paper.addEventListener("pointermove", move);
   paper.addEventListener("pointerup", end, { once: true });
+}
+
+// A rectangle of what is now: the samples in it are offered to be muted. A click is a click.
+function select(place) {
+  const { plot, index } = place;
+  const inside = (event) => {
+    const box = paper.getBoundingClientRect();
+    const [x, y] = [event.clientX - box.left - plot.x, event.clientY - box.top - plot.y];
+    return [Math.min(Math.max(x, 0), plot.wide), Math.min(Math.max(y, 0), plot.tall)];
+  };
+  const from = [place.x - plot.x, place.y - plot.y];
+  let ends = null;
+  const move = (event) => {
+    const to = inside(event);
+    if (!ends && Math.hypot(to[0] - from[0], to[1] - from[1]) <= 4) return;
+    ends = [0, 1].map((axis) => [Math.min(from[axis], to[axis]), Math.max(from[axis], to[axis])]);
+    const [[left, right], [top, bottom]] = ends;
+    at("section-box").hidden = false;
+    for (const [name, pixels] of Object.entries({ left: plot.x + left, top: plot.y + top, width: right - left, height: bottom - top })) at("section-box").style[name] = `${pixels}px`;
+  };
+  const end = () => {
+    paper.removeEventListener("pointermove", move);
+    at("section-box").hidden = true;
+    if (ends) boxed(near.head.sides[index].name, plot, ends);
+    else click(place);
+  };
+  paper.addEventListener("pointermove", move);
+  paper.addEventListener("pointerup", end, { once: true });
+}
+
+// Each trace and each sample that the rectangle touches.
+function boxed(name, { wide, tall }, [across, down]) {
+  if (name === "was") {
+    at("section-said").textContent = "This is the file as it was loaded: draw on what is now.";
+    return;
+  }
+  at("section-said").textContent = "";
+  const [left, right] = across.map((x) => view.left + x / wide * (view.right - view.left));
+  const [top, bottom] = down.map((y) => view.top + y / tall * (view.bottom - view.top));
+  const least = (low, most) => Math.min(Math.max(Math.floor(low), 0), most - 1);
+  const ends = { left: least(left, told.traces), top: least(top, told.samples) };
+  const { field, value, first, last } = told;
+  mute.offer({ ...(field ? { field, value } : { first, last }), ...ends, right: Math.max(Math.ceil(right), ends.left + 1), bottom: Math.max(Math.ceil(bottom), ends.top + 1) });
 }
 
 // ---- under the pointer
@@ -360,8 +408,10 @@ export function start() {
   at("section-on").addEventListener("click", () => line(told && told.on));
   for (const id of ["section-style", "section-side", "section-percentile", "section-balance", "section-window", "section-reverse", "section-headers"]) at(id).addEventListener("change", () => { kinds(); show(); });
   at("section-scale").addEventListener("change", show);
+  at("section-drag").addEventListener("change", () => { if (told) fill(at("section-caption"), caption()); });
   at("section-all").addEventListener("click", whole);
   at("section-map").addEventListener("click", () => runLine("map shot"));
+  mute.start();
   whenSpotted(spotted);
   paper.addEventListener("wheel", wheel, { passive: false });
   paper.addEventListener("pointerdown", drag);

@@ -1,0 +1,116 @@
+// Edits and queries of chosen traces of a small file that is made by hand.
+use crate::report_tests::on_survey;
+use crate::tests::{has, meets, shows, signed};
+use bench_core::{
+    Answer, AskFault, Bench, Chosen, ChosenEdit, ChosenQuery, Comparison, Condition, Edit, Field,
+    Items, Operand, Query, Refusal,
+};
+use std::alloc::Global;
+use std::process::Abort;
+use std::test::Fail;
+
+// The crossline of a trace, in bytes 193-196.
+fn crossline() -> Field {
+    signed(0, 193, 4)
+}
+
+// All three traces.
+fn all(alloc: Global) -> Chosen {
+    Chosen {
+        traces: Some((1, 3)),
+        conditions: Items::new(Vec::new(alloc)),
+    }
+}
+
+// Those on crossline 22 and behind; none where there is no memory for the condition.
+fn behind(alloc: Global) -> Chosen {
+    let condition = Condition {
+        left: Operand::Field(crossline()),
+        comparison: Comparison::AtLeast,
+        right: Operand::Number(22),
+    };
+    let mut conditions = Vec::new(alloc);
+    match conditions.push(condition) {
+        Ok(()) => Chosen {
+            traces: Some((1, 3)),
+            conditions: Items::new(conditions),
+        },
+        Err(_) => nothing(alloc),
+    }
+}
+
+fn nothing(alloc: Global) -> Chosen {
+    Chosen {
+        traces: None,
+        conditions: Items::new(Vec::new(alloc)),
+    }
+}
+
+fn fill(chosen: Chosen, first_sample: u32, last_sample: u32, value: i128) -> Edit {
+    Edit::OfChosen(
+        chosen,
+        ChosenEdit::Fill {
+            first_sample,
+            last_sample,
+            value,
+        },
+    )
+}
+
+fn fill_samples(rt: &impl Abort, alloc: Global, bench: &mut Bench) {
+    assert!(rt; meets(bench, alloc, fill(behind(alloc), 1, 1, -7), None));
+    assert!(rt; shows(bench, alloc, 1, 1, -2));
+    assert!(rt; shows(bench, alloc, 2, 1, -7));
+    assert!(rt; shows(bench, alloc, 3, 1, -7));
+    assert!(rt; shows(bench, alloc, 3, 0, -5));
+    let refused = Some(Refusal::NoSample(2, 2));
+    assert!(rt; meets(bench, alloc, fill(all(alloc), 2, 0, 9), refused));
+    let refused = Some(Refusal::DoesNotFit);
+    assert!(rt; meets(bench, alloc, fill(nothing(alloc), 0, 0, 32768), refused));
+}
+
+#[test]
+fn fills_samples_of_chosen_traces(rt: HostRuntime) -> Result<(), Fail> {
+    let alloc = rt.alloc();
+    on_survey(
+        alloc,
+        &mut |bench: &mut Bench| fill_samples(&rt, alloc, bench),
+    )
+}
+
+// How many traces the statistics list.
+fn listed(asked: &Result<Answer, AskFault>) -> Option<usize> {
+    match asked {
+        Ok(Answer::Stats(traces)) => Some(traces.as_slice().len()),
+        _ => None,
+    }
+}
+
+fn swap_and_delete(rt: &impl Abort, alloc: Global, bench: &mut Bench) {
+    let stats = Query::OfChosen(behind(alloc), ChosenQuery::Stats);
+    assert!(rt; listed(&bench.ask(alloc, &stats)) == Some(2));
+    let swap = ChosenEdit::Swap(crossline(), signed(0, 189, 4));
+    assert!(rt; meets(bench, alloc, Edit::OfChosen(behind(alloc), swap), None));
+    assert!(rt; has(bench, alloc, 3, crossline(), 10));
+    assert!(rt; has(bench, alloc, 1, crossline(), 21));
+    assert!(rt;
+        meets(
+            bench,
+            alloc,
+            Edit::OfChosen(all(alloc), ChosenEdit::Delete),
+            None
+        )
+    );
+    assert!(rt;
+        listed(&bench.ask(alloc, &Query::OfChosen(all(alloc), ChosenQuery::Stats))).is_none()
+    );
+}
+
+#[test]
+fn swaps_and_deletes_chosen_traces(rt: HostRuntime) -> Result<(), Fail> {
+    let alloc = rt.alloc();
+    on_survey(
+        alloc,
+        &mut |bench: &mut Bench| swap_and_delete(&rt, alloc, bench),
+    )
+}

@@ -1,0 +1,9 @@
+pub mod InOrder
+pub mod Cells
+pub mod Placed
+pub mod Pairs
+pub mod Steps
+pub mod Jumps
+pub mod Shared
+pub mod Survey
+pub mod Examples

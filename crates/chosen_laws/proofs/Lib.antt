@@ -1,0 +1,12 @@
+mod RangeLemmas
+mod StepLemmas
+mod NoneLemmas
+mod NumberLemmas
+mod DeleteLemmas
+mod PatchesLemmas
+mod WrittenLemmas
+mod PutLemmas
+mod SwappedTraceLemmas
+mod ChangedLemmas
+mod SwapBackLemmas
+mod SwapSetsLemmas

@@ -1,0 +1,7 @@
+use Rattle.std.proofs.Common.{◌≡◌, ◌+◌, ◌-◌, ◌*◌, ◌^◌, length, drop}
+use Rattle.std.specs.Str.Parse.{digits_value}
+use Rattle.exact_amounts.proofs.decimal_order.exponent_of.Given as goal
+
+-- with the digits that are left the value is that of all
+abbrev pub invariant-loop-at : goal.invariant-loop-at
+invariant-loop-at l = l.value * 10 ^ (length l.digits - l.at) + digits_value 10 (drop l.at l.digits) ≡ digits_value 10 l.digits

@@ -1,0 +1,2 @@
+pub mod CommonestLemmas
+pub mod FractionLemmas

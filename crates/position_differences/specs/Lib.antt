@@ -1,0 +1,4 @@
+pub mod Differences
+pub mod Commonest
+pub mod DifferencesExamples
+pub mod CommonestExamples

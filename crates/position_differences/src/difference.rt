@@ -1,0 +1,34 @@
+ghost use Rattle.std.specs.Prelude.{◌≡◌};
+ghost use Rattle.key_counts.specs.Parts.{FitsCoordinate};
+ghost use Rattle.position_differences.specs.Differences.{difference_of};
+
+use crate::fractions::above;
+use key_counts::Ratio;
+
+/// Where something stands: two coordinates under their scalar.
+#[derive(Debug, Clone, Copy, PartialEq, Eq)]
+pub struct Position {
+    pub x: Ratio,
+    pub y: Ratio,
+}
+
+/// How far one position lies above another, in x and in y. Ordered by x and then by y.
+#[derive(Debug, Clone, Copy, PartialEq, Eq, PartialOrd, Ord)]
+pub struct Difference {
+    pub x: Ratio,
+    pub y: Ratio,
+}
+
+/// How far the second position lies above the first, exactly.
+pub fn difference_between(from: &Position, to: &Position) -> Difference
+    requires from_x { FitsCoordinate from.now.x }
+    requires from_y { FitsCoordinate from.now.y }
+    requires to_x { FitsCoordinate to.now.x }
+    requires to_y { FitsCoordinate to.now.y }
+    ensures { result ≡ difference_of from.now to.now }
+{
+    Difference {
+        x: above(from.x, to.x),
+        y: above(from.y, to.y),
+    }
+}

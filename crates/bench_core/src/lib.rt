@@ -24,6 +24,6 @@ mod changes;
 pub use crate::bench::Bench;
 pub use bench_rules::{
     Answer, AskFault, Chosen, ChosenEdit, ChosenQuery, Comparison, Condition, Edit, Extremes,
-    Field, FloatTraceStatistics, Info, Items, Mapping, Operand, Operator, Query, Refusal, Table,
-    Text, TraceStatistics,
+    Field, FloatTraceStatistics, Info, Items, Mapping, Operand, Operator, Query, Refusal, Side,
+    Table, Text, TraceStatistics,
 };

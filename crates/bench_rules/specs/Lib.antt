@@ -33,9 +33,11 @@ pub mod ReportExamples
 pub mod Replies
 pub mod Reports
 pub mod SetRefusals
+pub mod SideValues
 pub mod Sorted
 pub mod SwappedFields
 pub mod SwapExamples
+pub mod FactExamples
 pub mod FilledSamples
 pub mod FillExamples
 pub mod SortedExamples
@@ -55,5 +57,6 @@ pub mod KeptSlices
 pub mod KeptSliceExamples
 pub mod RangeFaults
 pub mod RangeRefusals
+pub mod SampleFacts
 pub mod SampleStatistics
 pub mod SampleStatisticsExamples

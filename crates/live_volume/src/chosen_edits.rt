@@ -28,9 +28,9 @@ use std::alloc::Global;
 impl LiveVolume {
     /// An edit of the traces that are chosen: done whole, and then how many they were, where there
     /// is a condition; or refused, and all is as it was. Refused, in this order: E01 for the first
-    /// trace of the range, E01 for its last, E02, E03 of a condition, then what the edit refuses;
-    /// E11 may come in the place of any but E01. On disk also where a trace could not be read (E14,
-    /// E15).
+    /// trace of the range, E01 for its last, E02, E12 and E03 of a condition, then what the edit
+    /// refuses; E11 may come in the place of any but E01. On disk also where a trace could not be
+    /// read (E14, E15).
     pub fn apply_chosen(
         &mut self,
         alloc: Global,
@@ -282,6 +282,7 @@ fn refusal_for(fault: AskFault) -> Refusal
     match fault {
         AskFault::NoField => Refusal::NoField,
         AskFault::NoPlace => Refusal::NoPlace,
+        AskFault::NoValues => Refusal::NoValues,
         AskFault::ReadFailed => Refusal::ReadFailed,
         AskFault::FileChanged => Refusal::FileChanged,
         _ => Refusal::OutOfMemory,

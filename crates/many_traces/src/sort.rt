@@ -63,6 +63,7 @@ fn refusal_for(fault: AskFault) -> Refusal
     match fault {
         AskFault::NoField => Refusal::NoField,
         AskFault::NoPlace => Refusal::NoPlace,
+        AskFault::NoValues => Refusal::NoValues,
         AskFault::ReadFailed => Refusal::ReadFailed,
         AskFault::FileChanged => Refusal::FileChanged,
         _ => Refusal::OutOfMemory,

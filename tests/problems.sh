@@ -3,13 +3,15 @@
 
 # ---- some by hand
 answers 'nothing is wrong' 0 s.sgy 'problems' 'problems 0'
-answers 'a file without traces has no problem' 0 none.sgy 'problems' 'problems 0'
-answers 'the words of problems' 1 s.sgy 'problems 1 ; problems all ; problem' \
-    'refused S02 words / refused S02 words / refused S01 unknown word'
+answers 'a file without traces has no problem' 0 none.sgy 'problems ; survey' \
+    'problems 0 / survey none'
+answers 'the words of problems' 1 s.sgy 'problems 1 ; problems all ; problem ; survey 1' \
+    'refused S02 words / refused S02 words / refused S01 unknown word / refused S02 words'
 answers 'problems of edits' 0 s.sgy 'text 2 NONE ; copy 2 2 ; set 1 scalar 7 ; problems' \
-    'ok / ok / ok / problems 5 / problem F1 traces 2 runs 1 / run 3 4 shift -1'\
+    'ok / ok / ok / problems 6 / problem F1 traces 2 runs 1 / run 3 4 shift -1'\
 ' / problem F4 traces 1 runs 1 / run 1 1 scalar 7 / problem F6 traces 1 runs 1 / run 3 3 before 1'\
-' / problem F8 lines 1 / problem S3 traces 1 runs 1 / run 1 1 scalar 7 usual 0'
+' / problem F8 lines 1 / problem S3 traces 1 runs 1 / run 1 1 scalar 7 usual 0'\
+' / problem S10 pairs 2 jumps 1 / jump 2 4'
 answers 'runs of the same facts' 0 s.sgy \
     'set 1 @117:2u 7 ; set 2 @117:2u 7 ; set 3 @117:2u 8 ; set 3 delay -9 ; problems' \
     'ok / ok / ok / ok / problems 2 / problem F3 traces 3 runs 2 / run 1 2 interval 7 binary 4000'\
@@ -18,6 +20,17 @@ answers 'no survey numbers' 0 s.sgy \
     'set 1 crossline 23 ; set 2 crossline 23 ; set 2 offset 100 ; problems'\
 ' ; delete 3 ; delete 2 ; problems' \
     'ok / ok / ok / problems 1 / problem S1 traces 3 inline 10 crossline 23 / ok / ok / problems 0'
+answers 'a position that is another cell'"'"'s, and the grid' 0 s.sgy \
+    'survey ; set 3 x 1000 ; survey ; problems ; set 1 x 0 ; set 1 y 0 ; survey ; problems'\
+' ; delete 2 ; survey ; map crossline @1:4 ; survey' \
+    'survey inline 10 10 step none crossline 21 23 step 1 along_inline none along_crossline 1000 0'\
+' cells 3 of 3 / ok / survey inline 10 10 step none crossline 21 23 step 1 along_inline none'\
+' along_crossline -1000 0 cells 3 of 3 / problems 2 / problem S10 pairs 2 jumps 1 / jump 1 2'\
+' / problem S11 cells 1 / run 3 1 / ok / ok / survey inline 10 10 step none crossline 21 23'\
+' step 1 along_inline none along_crossline -1000 0 cells 3 of 3 / problems 0 / ok'\
+' / survey inline 10 10 step none crossline 21 23 step 2 along_inline none along_crossline none'\
+' cells 2 of 2 / ok / survey inline 10 10 step none crossline 0 0 step none along_inline none'\
+' along_crossline none cells 1 of 1'
 answers 'a dead trace, and a loud one' 0 s.sgy 'patch 1 0 7 7 ; patch 3 1 -701 ; problems' \
     'ok / ok / problems 2 / problem S12 traces 1 runs 1 / run 1 1 value 7'\
 ' / problem S13 traces 1 runs 1 / run 3 3 amount 701'
@@ -79,10 +92,10 @@ small_files() {
     local file kind
     for file in s x t v none deep ended; do
         cp "$file.sgy" "damaged/fixture_$file.sgy"
-        printf '%s\n' problems 'copy 1 1' 'set 1 scalar 7' problems 'blank end' \
+        printf '%s\n' problems 'copy 1 1' 'set 1 scalar 7' problems survey 'blank end' \
             'set last inline 900' 'set 1 @117:2u 9' 'set 1 @233:8 1' problems 'move 1 end' \
             'set 1 delay 9' 'patch 1 0 9 9' 'bin trace_count 7' 'text 3 no c' problems \
-            'map inline @1:4' 'map x @5:4' problems > "damaged/fixture_$file.txt"
+            'map inline @1:4' 'map x @5:4' problems survey 'map shot' survey problems > "damaged/fixture_$file.txt"
     done
     float_line damaged/fixture_f1.sgy big 1 0 42010000,c276a000 - 7fffffff,4019999a,80000000
     float_line damaged/fixture_f6.sgy little 6 2 3fb999999999999a,c05da80000000000 \

@@ -2,7 +2,7 @@
 
 # each report that needs no trace, in one script; then geometry, stat and slices of the first traces
 every_report() {
-    printf '%s\n' count grid inlines crosslines histogram 'range inline' 'range crossline' 'range offset' 'range x' 'range y' totals faults problems
+    printf '%s\n' count grid inlines crosslines histogram survey 'range inline' 'range crossline' 'range offset' 'range x' 'range y' totals faults problems
     printf '%s\n' 'fold 10 21' 'fold 10 -1' 'fold 170141183460469231731687303715884105727 0' 'slice 0' 'slice 1' 'slice 2'
     for p in 0 1 2 3 4 5 6; do printf 'geometry %s\nstat %s\n' "$p" "$p"; done
     printf '%s\n' 'table 1 3 @5:4 @37:4 @71:2 @181:8 inline_number crossline_number samples' 'table 1 1 ext_sequence_line' 'find 1 3 @189:4 -100 100' 'lines 0' 'lines 1'

@@ -383,6 +383,7 @@ answer_silent s queries.Totals = of_values_silent s.volume.head (Ok _) tt
 answer_silent s (queries.Slice k) = of_values_silent s.volume.head (Ok _) tt
 answer_silent s queries.Faults = tt
 answer_silent s queries.Problems = tt
+answer_silent s queries.Survey = tt
 answer_silent s (queries.Lines b) = or_fault_silent (block_of s.volume b) asks.NoPlace _ refl
 answer_silent s (queries.Table a b fields) = of_traces_silent s.volume a b _ (table_silent s.volume a b (each_of (place_in_trace s.fields) fields))
 answer_silent s (queries.Find a b field low high) = of_traces_silent s.volume a b _ (found_silent s.volume a b low high (place_in_trace s.fields field))

@@ -27,6 +27,7 @@ pub mod MappingExamples
 pub mod NumberExamples
 pub mod Places
 pub mod Problems
+pub mod PositionExamples
 pub mod RefusalExamples
 pub mod Refused
 pub mod ReportExamples

@@ -167,6 +167,7 @@ query_looks s kept queries.Totals = 0
 query_looks s kept (queries.Slice k) = value_looks (values s.volume.head.format) (if is_kept k kept then 0 else count_of s.volume)
 query_looks s kept queries.Faults = 0
 query_looks s kept queries.Problems = count_of s.volume
+query_looks s kept queries.Survey = 0
 query_looks s kept (queries.Table a b fields) = looks_at (each_of (place_in_trace s.fields) fields) (range_looks s.volume a b)
 query_looks s kept (queries.Find a b field low high) = looks_at (place_in_trace s.fields field) (range_looks s.volume a b)
 query_looks s kept (queries.Header p) = trace_looks s.volume p 1

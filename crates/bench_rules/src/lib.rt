@@ -65,7 +65,8 @@ pub use crate::location::Location;
 pub use crate::mapping::Mapping;
 pub use crate::mappings::bindings;
 pub use crate::of_volume::{
-    float_format, has_float_samples, has_opaque_samples, has_trace, place_in_trace, range_fault,
+    float_format, has_float_samples, has_opaque_samples, has_trace, is_shot_file, place_in_trace,
+    range_fault,
 };
 pub use crate::operand::Operand;
 pub use crate::operator::Operator;

@@ -335,6 +335,7 @@ plain_answer s queries.Totals h = plain_of_values s.volume.head (Ok (answers.Tot
 plain_answer s (queries.Slice k) h = plain_of_values s.volume.head (Ok (answers.Slice (slice_in s k))) tt
 plain_answer s queries.Faults h = tt
 plain_answer s queries.Problems h = tt
+plain_answer s queries.Survey h = tt
 plain_answer s (queries.Lines b) h = plain_lines_answer (block_of s.volume b)
 plain_answer s (queries.Table a b fields) h =
     plain_of_traces s.volume a b (table_answer s.volume a b (each_of (place_in_trace s.fields) fields)) (plain_table_answer s.volume a b (each_of (place_in_trace s.fields) fields))

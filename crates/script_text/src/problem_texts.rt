@@ -43,7 +43,13 @@ fn problems_in(lines: &[ProblemLine]) -> u64
 pub(crate) fn begins(line: ProblemLine) -> bool
     ensures { result ≡ begins_problem line }
 {
-    !matches!(line, ProblemLine::Run(..) | ProblemLine::Missing(_))
+    !matches!(
+        line,
+        ProblemLine::Run(..)
+            | ProblemLine::Missing(_)
+            | ProblemLine::Jump(_)
+            | ProblemLine::SharedPosition(_)
+    )
 }
 
 impl Listed for ProblemLine {
@@ -78,6 +84,21 @@ impl Listed for ProblemLine {
                 line.push_numbered(b" step ", run.step);
             }
             ProblemLine::Fold(fold) => push_fold(line, fold),
+            ProblemLine::Jumps(pairs, jumps) => {
+                line.push_numbered(b"problem S10 pairs ", pairs);
+                line.push_numbered(b" jumps ", jumps);
+            }
+            ProblemLine::Jump(pair) => {
+                line.push_numbered(b"jump ", pair.earlier);
+                line.push_spaced(pair.later);
+            }
+            ProblemLine::SharedPositions(cells) => {
+                line.push_numbered(b"problem S11 cells ", cells);
+            }
+            ProblemLine::SharedPosition(pair) => {
+                line.push_numbered(b"run ", pair.later);
+                line.push_spaced(pair.earlier);
+            }
         }
     }
 }

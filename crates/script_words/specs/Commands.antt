@@ -230,6 +230,7 @@ QueryHoldsMemory queries.Totals = ⊥
 QueryHoldsMemory (queries.Slice k) = ⊥
 QueryHoldsMemory queries.Faults = ⊥
 QueryHoldsMemory queries.Problems = ⊥
+QueryHoldsMemory queries.Survey = ⊥
 QueryHoldsMemory (queries.Lines b) = ⊥
 QueryHoldsMemory (queries.Table a b fields) = Unit {0}
 QueryHoldsMemory (queries.Find a b field low high) = IsName field

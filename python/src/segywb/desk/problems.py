@@ -174,6 +174,9 @@ def where(one: Problem, run: ProblemRun) -> Dict[str, Any]:
     >>> where(Problem("F6", 4, 1, [run], {}, ""), run)
     {'text': 'traces 5 to 8: before 4', 'trace': 5, 'last': 8, 'gap': None}
     """
+    if one.code in ("S10", "S11"):
+        text = f"traces {run.first} and {run.last}"
+        return {"text": text, "trace": run.first, "last": run.first, "gap": None}
     noun = _NOUNS.get(one.code, "trace")
     span = f"{noun} {run.first}" if run.first == run.last else f"{noun}s {run.first} to {run.last}"
     text = ": ".join([span, *([_facts(run.facts)] if run.facts else [])])

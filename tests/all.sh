@@ -8,6 +8,8 @@ here=$(cd "$(dirname "$0")" && pwd)
 program=$(realpath "${1:-$here/../crates/segywb/out/segywb}") || exit 1
 told=$(mktemp)
 trap 'rm -f "$told"' EXIT
+# one at a time may install what it needs: this installs what run.sh does, before the others begin
+bash "$here/run.sh" "$program" --version > "$told" 2>&1
 bash "$here/run.sh" "$program" > "$told" 2>&1 &
 runs=$!
 status=0

@@ -49,7 +49,7 @@ class Survey:
         self.extensions = 0
         self.counted = None
         self.lines_without_c = 0
-        self.script = ["problems"]
+        self.script = ["problems", "survey"]
         self.words = []
         self.number()
 
@@ -159,7 +159,7 @@ def mapped_shots(chance):
     """Shots, where the script says which numbers are theirs."""
     made = shots(chance)
     made.script = ["map inline field_record", "map crossline trace_in_record", "map x group_x"]
-    made.script += ["map y group_y", "problems"]
+    made.script += ["map y group_y", "problems", "survey"]
     return made
 
 
@@ -303,6 +303,17 @@ def uneven_fold(chance, made):
     made.number()
 
 
+def moved_cell(chance, made):
+    """A trace stands far from its neighbours."""
+    chance.choice(made.traces).x += 1000000
+
+
+def shared_cell(chance, made):
+    """A trace has the position of one that is far from it."""
+    trace, other = made.traces[chance.randrange(40)], made.traces[chance.randrange(100, 140)]
+    trace.x, trace.y = other.x, other.y
+
+
 def dead(chance, made):
     """Some traces are of one value."""
     for trace in some(chance, made, 3):
@@ -352,9 +363,10 @@ def unknown_name(chance, made):
 
 # Each damage of a whole file, with what the format has to be, and the codes that are told of it.
 DAMAGES = [
-    (wrong_line, {}, "F6 S9"), (shifted_block, {}, "F6 S9"), (doubled_block, {}, "F1 F6 S9"),
+    (wrong_line, {}, "F6 S9 S10"), (shifted_block, {}, "F6 S9 S10"),
+    (doubled_block, {}, "F1 F6 S9"), (moved_cell, {}, "S10"), (shared_cell, {}, "S10 S11"),
     (left_out, {}, "F1"), (missing_inline, {}, "S7"), (missing_crosslines, {}, "S8"),
-    (flipped_scalar, {}, "S3"), (unknown_scalar, {}, "F4 S3"), (at_zero, {}, "S2"),
+    (flipped_scalar, {}, "S3 S10"), (unknown_scalar, {}, "F4 S3 S10"), (at_zero, {}, "S2"),
     (delayed, {}, "S4"), (far_inline, {}, "S5"), (far_crossline, {}, "S6"),
     (uneven_fold, {}, "S9"), (dead, {}, "S12"), (spike, {"form": 2}, "S13"),
     (wrong_interval, {}, "F3"), (wrong_counts, {}, "F2"), (other_units, {}, "F5"),
@@ -425,6 +437,23 @@ def scalars(chance, others):
     return made
 
 
+def uneven_line(chance, more):
+    """A trace stands half a step and so many centimetres too far."""
+    made = Survey(grid(chance, [1], range(1, 11)))
+    made.traces[5].x += 1250 + more
+    return made
+
+
+def bend(chance, back):
+    """A line turns by a right angle, and at its end back or not."""
+    made = Survey(grid(chance, [1], range(1, 11)))
+    for number, trace in enumerate(made.traces[5:]):
+        trace.x, trace.y = made.traces[4].x, made.traces[4].y + 2500 * (number + 1)
+    if back:
+        made.traces[-1].x, made.traces[-1].y = made.traces[0].x, made.traces[0].y
+    return made
+
+
 def same_samples(chance, count):
     """A trace of so many samples of one value, with others."""
     made = Survey(grid(chance, [1], range(1, 6)))
@@ -470,8 +499,10 @@ BOUNDS = [
     ("fold_just", lambda c: folds(c, 2), "S9"), ("fold_not", lambda c: folds(c, 3), ""),
     ("zeros_half", lambda c: zeros(c, 5), ""), ("zeros_less", lambda c: zeros(c, 4), "S2"),
     ("zeros_two", lambda c: zeros(c, 2), "S2"), ("zeros_one", lambda c: zeros(c, 1), ""),
-    ("scalars_half", lambda c: scalars(c, 5), "S3"),
-    ("scalars_most", lambda c: scalars(c, 9), "S3"),
+    ("scalars_half", lambda c: scalars(c, 5), "S3 S10"),
+    ("scalars_most", lambda c: scalars(c, 9), "S3 S10"),
+    ("jump_not", lambda c: uneven_line(c, 0), ""), ("jump_just", lambda c: uneven_line(c, 1), "S10"),
+    ("bend", lambda c: bend(c, False), ""), ("bend_back", lambda c: bend(c, True), "S10 S11"),
     ("one_sample", lambda c: same_samples(c, 1), ""),
     ("two_samples", lambda c: same_samples(c, 2), "S12"),
     ("quiet", quiet, "S12"), ("shots_at_zero", shots_at_zero, "S1 S2"),

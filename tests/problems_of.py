@@ -1,5 +1,6 @@
 #!/usr/bin/env python3
-"""What `problems` has to answer, worked out apart from the program, by the words of docs/MANUAL.md.
+"""What `problems` and `survey` have to answer, worked out apart from the program, by the words of
+docs/MANUAL.md.
 
 The numbers come from other answers of a program (`info`, `faults`, `table` and `stat`); what they
 mean is decided here. Only the library of Python 3 is needed.
@@ -8,9 +9,9 @@ usage: problems_of.py PROGRAM SCRIPT FILE [WORD..]
        problems_of.py PROGRAM FOLDER
 
 The first prints the answers to the lines of SCRIPT over FILE, read with the options WORD: those to
-`problems` are worked out here, all others are the program's. The second does so for each NAME.sgy
-in FOLDER that has a script NAME.txt, with the options in NAME.words where it is there, and writes
-the answers to NAME.wanted.
+`problems` and `survey` are worked out here, all others are the program's. The second does so for
+each NAME.sgy in FOLDER that has a script NAME.txt, with the options in NAME.words where it is
+there, and writes the answers to NAME.wanted.
 """
 
 import itertools
@@ -24,6 +25,8 @@ from fractions import Fraction
 
 FAULTS = ("F1", "F2", "F3", "F4", "F5", "F6", "F9")
 TOLD_RUNS = 10
+TOLD_PAIRS = 10
+FAR_PARTS = 2
 FAR_STEPS = 10
 LOUD_TIMES = 100
 AT_ONCE = 500
@@ -197,6 +200,78 @@ def uneven_fold(cells):
     return ["problem S9 cells {} usual {} less {} more {} least {} greatest {}".format(*numbers)]
 
 
+class Survey:
+    """The cells of traces, each with its first trace and where that stands: nowhere at 0."""
+
+    def __init__(self, cells, places, shots):
+        self.traces, self.places, self.shots = {}, {}, shots
+        for trace, (cell, place) in enumerate(zip(cells, places), 1):
+            if cell not in self.traces:
+                self.traces[cell] = trace
+                if place != (0, 0):
+                    self.places[cell] = place
+        self.inlines, self.crosslines = [inline for inline, _ in cells], [line for _, line in cells]
+
+    def pairs(self, inline_step, crossline_step):
+        """The differences of positions of the cells so far apart, by the first of the two."""
+        differences = {}
+        for (inline, crossline), (x, y) in self.places.items():
+            other = self.places.get((inline + inline_step, crossline + crossline_step))
+            if other:
+                differences[inline, crossline] = other[0] - x, other[1] - y
+        return differences
+
+    def along(self, numbers, across):
+        """The step of these lines, as a distance of cells; None of one line."""
+        step = commonest(steps(sorted(set(numbers))))
+        return step and ((0, step) if across else (step, 0))
+
+    def apart(self):
+        """The distances of cells on neighbouring inlines and on neighbouring crosslines."""
+        return self.along(self.inlines, False), self.along(self.crosslines, True)
+
+
+def is_far(difference, other):
+    """A coordinate differs by more than half of the greater amount of the other's two."""
+    widest = max(map(abs, other))
+    return any(FAR_PARTS * abs(one - two) > widest for one, two in zip(difference, other))
+
+
+def jumps(survey):
+    """S10: pairs of neighbouring cells whose positions differ otherwise than most, and than those
+    beside them on their line."""
+    count, found = 0, []
+    for apart in survey.apart()[:1 if survey.shots else 2]:
+        pairs = survey.pairs(*apart) if apart else {}
+        count += len(pairs)
+        usual = commonest(pairs.values())
+        for (inline, crossline), difference in pairs.items():
+            before = pairs.get((inline - apart[0], crossline - apart[1]))
+            second = inline + apart[0], crossline + apart[1]
+            others = [other for other in (usual, before, pairs.get(second)) if other]
+            if usual != (0, 0) and all(is_far(difference, other) for other in others):
+                found.append(sorted((survey.traces[inline, crossline], survey.traces[second])))
+    if not found:
+        return []
+    found.sort(key=lambda pair: pair[::-1])
+    told = [f"jump {earlier} {later}" for earlier, later in found[:TOLD_PAIRS]]
+    return [f"problem S10 pairs {count} jumps {len(found)}", *told]
+
+
+def shared_positions(survey):
+    """S11: cells that stand where a cell before them does."""
+    first, found = {}, []
+    for trace, cell in sorted((trace, cell) for cell, trace in survey.traces.items()):
+        if cell in survey.places:
+            earlier = first.setdefault(survey.places[cell], trace)
+            if earlier != trace:
+                found.append((trace, earlier))
+    if survey.shots or not found:
+        return []
+    told = [f"run {trace} {earlier}" for trace, earlier in found[:TOLD_PAIRS]]
+    return [f"problem S11 cells {len(found)}", *told]
+
+
 def dead(ranges):
     """S12: two or more samples that are numbers, all the same; -0 is 0."""
     marks = [
@@ -260,9 +335,55 @@ def sample_ranges(session, count):
     return [Range(w, narrow) if has_amount(w) else None for w in (line.split() for line in told)]
 
 
+def scaled(number, scalar):
+    """A coordinate under its scalar: times it, or where it is negative over its amount."""
+    return number * Fraction(scalar) if scalar > 0 else Fraction(number, -scalar or 1)
+
+
+def survey_of(rows, fields):
+    """The survey of rows of inline, crossline, x, y and scalar, under the answer to `fields`."""
+    places = dict(line.split()[1:3] for line in fields[1:])
+    shots = places["inline"].startswith("@9:") and places["crossline"].startswith("@13:")
+    where = [(scaled(row[2], row[4]), scaled(row[3], row[4])) for row in rows]
+    return Survey([row[:2] for row in rows], where, shots)
+
+
+def span(numbers):
+    """The first and the last line that is not far from the others, the step, and how many lines
+    there are from one to the other."""
+    near = near_lines(numbers)
+    step = commonest(steps(sorted(set(numbers))))
+    return near[0], near[-1], step, (near[-1] - near[0]) // step + 1 if step else 1
+
+
+def grid(session):
+    """The line of `survey`, of the volume as it is now in the session."""
+    (counted,), fields = session.ask(["count", "fields"])
+    count = int(counted.split()[1])
+    if not count:
+        return ["survey none"]
+    (table,) = session.ask([f"table 1 {count} inline crossline x y scalar"])
+    survey = survey_of([tuple(map(int, line.split()[1:])) for line in table[1:]], fields)
+    told, sizes, spans = ["survey"], [], []
+    for word, numbers in ("inline", survey.inlines), ("crossline", survey.crosslines):
+        first, last, step, size = span(numbers)
+        told.append(f"{word} {first} {last} step {step or 'none'}")
+        sizes.append(size)
+        spans.append((first, last))
+    for word, apart in zip(("inline", "crossline"), survey.apart()):
+        usual = commonest(survey.pairs(*apart).values()) if apart else None
+        told.append(f"along_{word} {' '.join(map(str, usual)) if usual else 'none'}")
+    inside = sum(
+        all(first <= line <= last for line, (first, last) in zip(cell, spans))
+        for cell in survey.traces
+    )
+    told.append(f"cells {inside} of {sizes[0] * sizes[1]}")
+    return [" ".join(told)]
+
+
 def problems(session):
     """The lines of `problems`, of the volume as it is now in the session."""
-    (counted,), faults = session.ask(["count", "faults"])
+    (counted,), faults, fields = session.ask(["count", "faults", "fields"])
     count = int(counted.split()[1])
     rows, ranges = [], []
     if count:
@@ -280,16 +401,21 @@ def problems(session):
     lines += unusual("S4", "delay", [row[5] for row in rows])
     lines += far_lines("S5", "inline", inlines) + far_lines("S6", "crossline", crosslines)
     lines += missing_lines("S7", inlines) + missing_lines("S8", crosslines)
-    lines += uneven_fold(cells) + dead(ranges) + loud(ranges)
+    lines += uneven_fold(cells)
+    if not surveyless:
+        survey = survey_of(rows, fields)
+        lines += jumps(survey) + shared_positions(survey)
+    lines += dead(ranges) + loud(ranges)
     return [f"problems {sum(line.startswith('problem ') for line in lines)}", *lines]
 
 
 def answered(session, line):
     """The answer to a line of a script: a list of lines."""
     words = line.split()
-    if words[:1] != ["problems"]:
+    worked_out = {"problems": problems, "survey": grid}.get(words[0]) if words else None
+    if not worked_out:
         return session.ask([line])[0]
-    return problems(session) if len(words) == 1 else ["refused S02 words"]
+    return worked_out(session) if len(words) == 1 else ["refused S02 words"]
 
 
 def script_answers(program, script, file, words):

@@ -68,10 +68,26 @@ def problems(v):
     made = [f"problems {len(found)}"]
     for one in found:
         traces = "" if one.traces is None else f" traces {one.traces}"
-        runs = f" runs {one.runs}" if one.runs else ""
+        runs = f" runs {one.runs}" if one.runs and one.code not in ("S10", "S11") else ""
+        begins = "jump" if one.code == "S10" else "run"
         made.append(f"problem {one.code}{traces}{facts(v, one.facts)}{runs}")
-        made += [f"run {run.first} {run.last}{facts(v, run.facts)}" for run in one.first_runs]
+        made += [f"{begins} {run.first} {run.last}{facts(v, run.facts)}" for run in one.first_runs]
     return "\n".join(made)
+
+
+def survey(v):
+    """The grid of the survey in the words of the program."""
+    told = v.survey()
+    if told is None:
+        return "survey none"
+    words = ["survey"]
+    for name in ("inline", "crossline"):
+        found = getattr(told, name)
+        words += [name, found.first, found.last, "step", "none" if found.step is None else found.step]
+    for name in ("along_inline", "along_crossline"):
+        apart = getattr(told, name)
+        words += [name, *(["none"] if apart is None else apart)]
+    return " ".join(map(str, [*words, "cells", told.cells, "of", told.full]))
 
 
 def reports(v):
@@ -88,6 +104,7 @@ def reports(v):
         yield f"slice {k}", listed("slice", (f"row {i} {x} {p} {value_of(v, value)}" for i, x, p, value in v.slice(k).rows))
     yield "faults", listed("faults", (fault.text for fault in v.faults()))
     yield "problems", problems(v)
+    yield "survey", survey(v)
     for i, x, fold in list(v.grid.rows)[:5]:
         yield f"fold {i} {x}", f"fold {v.fold(i, x)}"
 

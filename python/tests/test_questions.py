@@ -19,7 +19,7 @@ METHODS = {
     "patch": "patch", "fill": "fill", "resize": "resize", "blank": "blank", "copy": "copy", "delete": "delete", "move": "move", "count": "count",
     "info": "info", "geometry": "geometry", "stat": "stat", "stats": "stats", "totals": "totals", "range": "range", "fold": "fold", "grid": "grid",
     "inlines": "inlines", "crosslines": "crosslines", "histogram": "histogram", "slice": "slice", "faults": "faults",
-    "problems": "problems",
+    "problems": "problems", "survey": "survey",
     "table": "headers", "find": "find", "header": "header", "extremes": "extremes", "lines": "lines",
 }
 
@@ -146,7 +146,8 @@ def test_problems(opened, tmp_path):
     volume.set_many("scalar", [2, 3, 7], [10, 10, -10])
     volume.set(12, "delay", -8)
     volume.set_text(2, "no letter in front")
-    lines, scalars, delays = volume.problems()
+    lines, scalars, delays, jumps = volume.problems()
+    assert (jumps.code, jumps.traces, jumps.first_runs[0][:2]) == ("S10", None, (1, 2))
     assert (lines.code, lines.traces, lines.runs, lines.facts, lines.how_many) == ("F8", None, 0, {"lines": 1}, 1)
     assert (scalars.code, scalars.traces, scalars.runs, scalars.how_many) == ("S3", 3, 2, 3)
     usual = scalars.first_runs[0].facts["usual"]
@@ -180,6 +181,59 @@ def test_a_fold_that_differs(opened, tmp_path):
     told = {"cells": 12, "usual": 1, "less": 0, "more": 1, "least": 1, "greatest": 2}
     assert fold == ("S9", None, 0, [], told, "problem S9 cells 12 usual 1 less 0 more 1 least 1 greatest 2", 13) and fold.how_many == 1
     assert fold.mend is None
+
+
+def test_the_grid_of_a_survey(opened, tmp_path):
+    """Its lines and their steps, how far neighbours stand apart, and how many cells there are of how many."""
+    volume = opened("cube")
+    told = volume.survey()
+    assert told.inline == (101, 103, 1) and told.crossline == (201, 204, 1) and (told.cells, told.full) == (12, 12)
+    assert told.along_inline == (0, 25) and told.along_crossline == (25, 0) and isinstance(told.along_inline[1], Fraction)
+    volume.set_each("scalar", -3)
+    volume.delete(2)
+    assert volume.survey()[2:] == ((0, Fraction(2500, 3)), (Fraction(2500, 3), 0), 11, 12)
+    volume.delete(where="inline != 103")
+    alone = volume.survey()
+    assert alone.inline == (103, 103, None) and alone.along_inline is None and alone.along_crossline == (Fraction(2500, 3), 0)
+    volume.set_each("inline", -7, where="crossline = 202")
+    assert volume.survey().inline == (-7, 103, 110) and volume.survey().full == 8
+    volume.delete(where="inline = 103")
+    assert volume.survey() == ((-7, -7, None), (202, 202, None), None, None, 1, 1)
+    volume.delete(1)
+    assert volume.survey() is None and opened(files.empty(tmp_path / "none.sgy")).survey() is None
+
+
+@pytest.mark.parametrize("answer", [
+    "survey", "survey nothing", "survey inline 1 1 step none", "survey inline 1 1 step none crossline 2 2 step none along_inline none along_crossline none cells 1",
+    "survey inline 1 1 step x crossline 2 2 step none along_inline none along_crossline none cells 1 of 1",
+    "survey inline 1 1 step none crossline 2 2 step none along_inline 1/0 0 along_crossline none cells 1 of 1",
+])
+def test_a_grid_that_is_none(answer):
+    with pytest.raises(segywb.ProgramEnded):
+        segywb.answers.survey(answer)
+
+
+def test_dead_traces_are_marked(opened):
+    """By one line, which is no cure: they are told all the same."""
+    volume = opened("cube")
+    volume.fill(2, 3, 0, 4, 0)
+    volume.patch(7, 2, [-30001])
+    dead, loud = volume.problems()
+    assert (dead.code, loud.code, loud.mend) == ("S12", "S13", None)
+    assert volume.run(dead.mend)[0].chosen == dead.traces == 2 and volume.find("trace_code", 2, 2)["trace"].tolist() == [2, 3]
+    assert [one.code for one in volume.problems()] == ["S12", "S13"]
+
+
+def test_positions_that_jump_and_cells_that_share_one(opened):
+    """Each names two traces; those of all pairs are counted, of which ten are told."""
+    volume = opened("cube")
+    volume.set(6, "x", volume.get(7, "x"))
+    jumps, shared = volume.problems()
+    assert (jumps.code, jumps.traces, jumps.how_many, jumps.facts["jumps"]) == ("S10", None, jumps.runs, jumps.runs)
+    assert jumps.runs == len(jumps.first_runs) > 0 and all(6 in run[:2] for run in jumps.first_runs) and all(run.first < run.last for run in jumps.first_runs)
+    assert (shared.code, shared.how_many, shared.first_runs) == ("S11", 1, [(7, 6, {})]) and shared.mend is jumps.mend is None
+    volume.undo()
+    assert volume.problems() == []
 
 
 def test_the_number_of_traces(opened, tmp_path):

@@ -175,6 +175,13 @@ def test_words(opened):
     page.wait(lambda: "crossline" in [one.text for one in page.all("#choices .word")])
     field.send_keys(Keys.TAB, Keys.ENTER)
     assert page.answer("table 1 2 inline crossline ") == "table 2\n1 101 201\n2 101 202"
+    field.send_keys("count all where sample_l")
+    page.wait(lambda: [one.text for one in page.all("#choices .word")] == ["sample_least"])
+    field.send_keys(Keys.TAB, "= sample_gr", Keys.TAB, Keys.ENTER)
+    assert page.answer("count all where sample_least = sample_greatest ") == "chosen 0"
+    field.send_keys("get 1 sample_l")
+    page.wait(lambda: "sample_least" not in [one.text for one in page.all("#choices .word")])
+    field.clear()
     field.send_keys("getbin inte")
     page.wait(lambda: [one.text for one in page.all("#choices .word")] == ["interval"])
     field.send_keys(Keys.TAB, Keys.ENTER)

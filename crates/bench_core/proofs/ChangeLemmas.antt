@@ -16,7 +16,7 @@ use Rattle.bench_rules.specs.declared.edit.Edit.{Edit}
 use Rattle.bench_rules.specs.declared.edit.Edit.TheVariants.{Set, SetBin, Declare, DropTail, SetText, Map, MapAs, Unmap, Patch, Blank, Copy, Delete, Move, MoveBlock, Resize, Renumber, Compute, Sort, OfChosen}
 use Rattle.bench_rules.specs.declared.refusal.Refusal.{Refusal}
 use Rattle.bench_rules.specs.declared.query.Query.{Query}
-use Rattle.bench_rules.specs.declared.query.Query.TheVariants.{Count, Info, Get, GetBin, Line, Code, Stanzas, Fields, Sample, Geometry, Stat, Fold, Grid, Inlines, Crosslines, Histogram, Range, Totals, Slice, Faults, Problems, Lines, Table, Find, Header, Extremes, OfChosen as AskOfChosen}
+use Rattle.bench_rules.specs.declared.query.Query.TheVariants.{Count, Info, Get, GetBin, Line, Code, Stanzas, Fields, Sample, Geometry, Stat, Fold, Grid, Inlines, Crosslines, Histogram, Range, Totals, Slice, Faults, Problems, Survey, Lines, Table, Find, Header, Extremes, OfChosen as AskOfChosen}
 use Rattle.bench_rules.specs.Kept.{kept_after_edit, kept_after_query, same_cell, cell_of}
 use Rattle.bench_rules.specs.Live.{AreSlicesOf, kept_after_reply}
 use Rattle.bench_rules.specs.Looks.{query_looks}
@@ -216,6 +216,7 @@ no_slice Totals other = (λ s kept. refl, λ kept. refl)
 no_slice (Slice k) other = absurd (other k refl)
 no_slice Faults other = (λ s kept. refl, λ kept. refl)
 no_slice Problems other = (λ s kept. refl, λ kept. refl)
+no_slice Survey other = (λ s kept. refl, λ kept. refl)
 no_slice (Lines b) other = (λ s kept. refl, λ kept. refl)
 no_slice (Table a b fields) other = (λ s kept. refl, λ kept. refl)
 no_slice (Find a b field low high) other = (λ s kept. refl, λ kept. refl)

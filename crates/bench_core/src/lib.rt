@@ -13,9 +13,9 @@
 //! `load` takes memory for the file's bytes, the list of its traces, the six geometry names, the
 //! records with what has counted them, and room for kept slices; `apply` for `Set`, `Map`,
 //! `MapAs`, `Patch`, `Blank`, `Copy`, `Move`, `MoveBlock`, `Resize`, `Renumber`, `Compute`, `Sort`
-//! and `OfChosen` alone; `ask` for answers that are texts or lists alone: `Line`, `Lines`,
-//! `Stanzas`, `Fields`, `Grid`, `Inlines`, `Crosslines`, `Histogram`, `Slice`, `Faults`, `Table`,
-//! `Find`, `Header`, `Extremes` and `OfChosen`.
+//! and `OfChosen` alone; `ask` for `Survey` and for answers that are texts or lists alone: `Line`,
+//! `Lines`, `Stanzas`, `Fields`, `Grid`, `Inlines`, `Crosslines`, `Histogram`, `Slice`, `Faults`,
+//! `Problems`, `Table`, `Find`, `Header`, `Extremes` and `OfChosen`.
 #![tactic(auto)]
 
 mod bench;
@@ -24,6 +24,6 @@ mod changes;
 pub use crate::bench::Bench;
 pub use bench_rules::{
     Answer, AskFault, Chosen, ChosenEdit, ChosenQuery, Comparison, Condition, Edit, Extremes,
-    Field, FloatTraceStatistics, Info, Items, Mapping, Operand, Operator, Query, Refusal, Table,
-    Text, TraceStatistics,
+    Field, FloatTraceStatistics, Info, Items, Mapping, Operand, Operator, Query, Refusal, Side,
+    Table, Text, TraceStatistics,
 };

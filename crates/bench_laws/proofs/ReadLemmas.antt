@@ -43,7 +43,7 @@ use Rattle.bench_rules.specs.declared.chosen_query.ChosenQuery.TheVariants as ch
 use Rattle.bench_rules.specs.declared.test.Test.{Test}
 use Rattle.bench_rules.specs.ChosenEdits.{counted_each, has_fields, refusal_of_chosen, refusal_of_edit, refusal_under}
 use Rattle.bench_rules.specs.ChosenQueries.{answer_of_chosen, answer_of_each, answer_under, asks_for_fields, found_answer_of_each, of_range, table_answer_of_each, table_of_each}
-use Rattle.bench_rules.specs.Conditions.{chosen_among, range_of, tests_of}
+use Rattle.bench_rules.specs.Conditions.{chosen_among, lacks_values, range_of, tests_of}
 use Rattle.bench_rules.specs.RangeRefusals.{range_refusal}
 use Rattle.bench_rules.proofs.ToldLemmas.{told_is}
 use Rattle.bench_rules.specs.Headers.{named_places, header_of}
@@ -210,7 +210,8 @@ of_chosen_silent v fields edit (Some ps) = each_silent v fields edit ps
 
 under_silent : (v : Volume) (fields : Pairs) (range : Option (ℕ × ℕ)) (edit : ChosenEdit) (o : Option (List Test)) → Silent (refusal_under v fields range edit o)
 under_silent v fields range edit None = refl
-under_silent v fields range edit (Some tests) = of_chosen_silent v fields edit (chosen_among v tests (range_of range))
+under_silent v fields range edit (Some tests) =
+    choose (lacks_values v.head.format tests) (Some refusals.NoValues) (refusal_of_chosen v fields edit (chosen_among v tests (range_of range))) refl (of_chosen_silent v fields edit (chosen_among v tests (range_of range)))
 
 -- ---- of every edit
 
@@ -359,7 +360,8 @@ chosen_answer_silent v fields query (Some ps) = each_answer_silent v fields quer
 
 answer_under_silent : (v : Volume) (fields : Pairs) (range : Option (ℕ × ℕ)) (query : ChosenQuery) (o : Option (List Test)) → SilentReply (answer_under v fields range query o)
 answer_under_silent v fields range query None = refl
-answer_under_silent v fields range query (Some tests) = chosen_answer_silent v fields query (chosen_among v tests (range_of range))
+answer_under_silent v fields range query (Some tests) =
+    choose_reply (lacks_values v.head.format tests) _ _ refl (chosen_answer_silent v fields query (chosen_among v tests (range_of range)))
 
 answer_silent : (s : State) (query : Query) → SilentReply (answer s query)
 answer_silent s queries.Count = tt
@@ -383,6 +385,7 @@ answer_silent s queries.Totals = of_values_silent s.volume.head (Ok _) tt
 answer_silent s (queries.Slice k) = of_values_silent s.volume.head (Ok _) tt
 answer_silent s queries.Faults = tt
 answer_silent s queries.Problems = tt
+answer_silent s queries.Survey = tt
 answer_silent s (queries.Lines b) = or_fault_silent (block_of s.volume b) asks.NoPlace _ refl
 answer_silent s (queries.Table a b fields) = of_traces_silent s.volume a b _ (table_silent s.volume a b (each_of (place_in_trace s.fields) fields))
 answer_silent s (queries.Find a b field low high) = of_traces_silent s.volume a b _ (found_silent s.volume a b low high (place_in_trace s.fields field))

@@ -8,7 +8,7 @@ use Rattle.bench_rules.specs.declared.refusal.Refusal.{Refusal}
 use Rattle.bench_rules.specs.After.{bytes_after}
 use Rattle.bench_laws.specs.EditLaws.{IsReadAlike, StepsStayCut, from_scratch, AnswersFromScratch, RepliesFromScratch}
 use Rattle.bench_rules.specs.declared.query.Query.{Query}
-use Rattle.bench_rules.specs.declared.query.Query.TheVariants.{Count, Info, Get, GetBin, Line, Lines, Code, Stanzas, Fields, Sample, Geometry, Stat, Fold, Grid, Inlines, Crosslines, Histogram, Range, Totals, Slice, Faults, Problems, Table, Find, Header, Extremes, OfChosen}
+use Rattle.bench_rules.specs.declared.query.Query.TheVariants.{Count, Info, Get, GetBin, Line, Lines, Code, Stanzas, Fields, Sample, Geometry, Stat, Fold, Grid, Inlines, Crosslines, Histogram, Range, Totals, Slice, Faults, Problems, Survey, Table, Find, Header, Extremes, OfChosen}
 use Rattle.bench_rules.specs.Answer.{answer, IsReply}
 use Rattle.frame_cut.specs.declared.limits.Limits.{Limits}
 use Rattle.frame_cut.specs.declared.reading.Reading.{Reading}
@@ -89,6 +89,7 @@ answer_alike s on_disk Totals = refl
 answer_alike s on_disk (Slice k) = refl
 answer_alike s on_disk Faults = refl
 answer_alike s on_disk Problems = refl
+answer_alike s on_disk Survey = refl
 answer_alike s on_disk (Table a b fields) = refl
 answer_alike s on_disk (Find a b field low high) = refl
 answer_alike s on_disk (Header p) = refl

@@ -25,7 +25,7 @@ use Rattle.bench_rules.specs.declared.test.Test.{Test}
 use Rattle.bench_rules.specs.After.{bytes_after}
 use Rattle.bench_rules.specs.ChosenEdits.{bytes_after_each, bytes_with, chosen_refusal, computed_each, counted_each, has_fields, refusal_of_chosen, refusal_of_edit, refusal_under, without_each}
 use Rattle.bench_rules.specs.Computed.{Formula, formula_of, computed_in, compute_refusal, first_at, number_at}
-use Rattle.bench_rules.specs.Conditions.{AreRising, chosen, chosen_among, judged, meets, range_of, tests_of}
+use Rattle.bench_rules.specs.Conditions.{AreRising, asked_tests, chosen, chosen_among, judged, lacks_values, meets, range_of, tests_of}
 use Rattle.bench_rules.specs.FilledSamples.{filled}
 use Rattle.bench_rules.specs.ManyTraces.{each_of, positions}
 use Rattle.bench_rules.specs.Places.{place_in_trace}
@@ -152,7 +152,7 @@ range-there s (Some r) tests ps free e =
 
 -- chosen traces rise, where those of the range are there
 pub chosen_rising : (s : State) (c : Chosen) (ps : List ℕ) → range_refusal s.volume c.traces ≡ None → chosen s.volume s.fields c ≡ Some ps → AreRising 1 (count_of s.volume) ps
-chosen_rising s c ps free e = by (tests_of s.fields c.conditions) e
+chosen_rising s c ps free e = by (asked_tests s.volume.head.format s.fields c.conditions) e
   where
     by : (o : Option (List Test)) → option_and_then (λ tests. chosen_among s.volume tests (range_of c.traces)) o ≡ Some ps → AreRising 1 (count_of s.volume) ps
     by None f = absurd cc
@@ -163,10 +163,18 @@ pub chosen_first : (s : State) (c : Chosen) (edit : ChosenEdit) (ps : List ℕ) 
     → first_refusal s (OfChosen c edit) ≡ refusal_of_edit s.volume s.fields edit ps
 chosen_first s c edit ps free has e = rw (free, has) (by (tests_of s.fields c.conditions) e)
   where
-    by : (o : Option (List Test)) → option_and_then (λ tests. chosen_among s.volume tests (range_of c.traces)) o ≡ Some ps
+    among : List Test → Option (List ℕ)
+    among tests = chosen_among s.volume tests (range_of c.traces)
+
+    asked : (tests : List Test) (lacks : Bool) → option_and_then among (if lacks then None else Some tests) ≡ Some ps
+        → (if lacks then Some refusals.NoValues else refusal_of_chosen s.volume s.fields edit (among tests)) ≡ refusal_of_edit s.volume s.fields edit ps
+    asked tests true f = absurd cc
+    asked tests false f = ap (λ (o : Option (List ℕ)). refusal_of_chosen s.volume s.fields edit o) f
+
+    by : (o : Option (List Test)) → option_and_then among (option_and_then (λ tests. if lacks_values s.volume.head.format tests then None else Some tests) o) ≡ Some ps
         → refusal_under s.volume s.fields c.traces edit o ≡ refusal_of_edit s.volume s.fields edit ps
     by None f = absurd cc
-    by (Some tests) f = rw f refl
+    by (Some tests) f = asked tests (lacks_values s.volume.head.format tests) f
 
 unless-not : (b : Bool) (r : Refusal) (o : Option Refusal) → (if not b then Some r else o) ≡ None → (b ≡ true) × (o ≡ None)
 unless-not true r o e = (refl, e)
@@ -178,17 +186,26 @@ chosen_accepted s c edit e =
     let has = unless-not (has_fields s.fields edit) refusals.NoField _ free.1 in
     by-tests (tests_of s.fields c.conditions) refl free.0 has.0 has.1
   where
-    by-traces : (tests : List Test) (o : Option (List ℕ)) → tests_of s.fields c.conditions ≡ Some tests → chosen_among s.volume tests (range_of c.traces) ≡ o → range_refusal s.volume c.traces ≡ None → has_fields s.fields edit ≡ true
+    by-traces : (tests : List Test) (o : Option (List ℕ)) → asked_tests s.volume.head.format s.fields c.conditions ≡ Some tests → chosen_among s.volume tests (range_of c.traces) ≡ o → range_refusal s.volume c.traces ≡ None → has_fields s.fields edit ≡ true
         → refusal_of_chosen s.volume s.fields edit o ≡ None → ChosenAccepted s c edit
     by-traces tests None t f free has none = absurd cc
     by-traces tests (Some ps) t f free has none =
         let found : chosen s.volume s.fields c ≡ Some ps = rw t f in
         record { traces = ps; found = found; rising = chosen_rising s c ps free found; has = has; none = none }
 
+    asks : List Test → Option (List Test)
+    asks tests = if lacks_values s.volume.head.format tests then None else Some tests
+
+    asked : (tests : List Test) (lacks : Bool) → lacks_values s.volume.head.format tests ≡ lacks → asked_tests s.volume.head.format s.fields c.conditions ≡ asks tests → range_refusal s.volume c.traces ≡ None
+        → has_fields s.fields edit ≡ true → (if lacks then Some refusals.NoValues else refusal_of_chosen s.volume s.fields edit (chosen_among s.volume tests (range_of c.traces))) ≡ None → ChosenAccepted s c edit
+    asked tests true l t free has none = absurd cc
+    asked tests false l t free has none =
+        by-traces tests (chosen_among s.volume tests (range_of c.traces)) (t ∙ ap (λ (b : Bool). let o : Option (List Test) = if b then None else Some tests in o) l) refl free has none
+
     by-tests : (o : Option (List Test)) → tests_of s.fields c.conditions ≡ o → range_refusal s.volume c.traces ≡ None → has_fields s.fields edit ≡ true
         → refusal_under s.volume s.fields c.traces edit o ≡ None → ChosenAccepted s c edit
     by-tests None t free has none = absurd cc
-    by-tests (Some tests) t free has none = by-traces tests (chosen_among s.volume tests (range_of c.traces)) t refl free has none
+    by-tests (Some tests) t free has none = asked tests (lacks_values s.volume.head.format tests) refl (ap (λ (o : Option (List Test)). option_and_then asks o) t) free has none
 
 -- ---- the volume behind the edit
 

@@ -36,3 +36,4 @@ pub mod RisingLemmas
 pub mod FloatLemmas
 pub mod ToldLemmas
 pub mod TestLemmas
+pub mod LackLemmas

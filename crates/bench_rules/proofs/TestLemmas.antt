@@ -1,12 +1,9 @@
 -- Whether a trace meets conditions, one after another.
-use Rattle.std.proofs.Common.{◌≡◌, ℕ, ◌+◌, ◌<◌, ◌≤◌, Bool, true, false, ◌&&◌, List, [], ◌∷◌, length, drop, get_or, Option, Some, None, refl, sym, ap, ◌∙◌, arith}
+use Rattle.std.proofs.Common.{◌≡◌, ℕ, ◌+◌, ◌<◌, ◌≤◌, Bool, true, false, ◌&&◌, ◌||◌, List, [], ◌∷◌, length, drop, get_or, Option, Some, None, refl, sym, ap, ◌∙◌}
 use Rattle.std.specs.Prelude.{option_map, option_and_then}
-use Rattle.std.specs.List.{list_all}
+use Rattle.std.specs.List.{list_all, list_any}
 use Rattle.std.proofs.Math.ListN.{drop_of_length-le}
 use Rattle.std.proofs.lemmas.List.{drop_more}
-use Rattle.frame_cut.specs.declared.file_head.Head.{Head}
-use Rattle.bench_rules.specs.declared.test.Test.{Test}
-use Rattle.bench_rules.specs.Conditions.{meets, test_in}
 use Rattle.bench_rules.specs.ManyTraces.{each_of}
 
 -- what the conditions that are left say, where those before have said this
@@ -18,24 +15,37 @@ one_more all here None = refl
 one_more true here (Some bs) = refl
 one_more false here (Some bs) = refl
 
-pub goes_on : (h : Head) (t : List ℕ) (tests : List Test) (i : ℕ) (d : Test) (all here : Bool) → i < length tests → Some here ≡ test_in h t (get_or tests i d)
-    → meets h t tests ≡ said all (each_of (test_in h t) (drop i tests)) → meets h t tests ≡ said (all && here) (each_of (test_in h t) (drop (i + 1) tests))
-goes_on h t tests i d all here below is far =
-    far
-    ∙ ap (λ (ts : List Test). said all (each_of (test_in h t) ts)) (drop_more tests i d below)
-    ∙ ap (λ (o : Option Bool). said all (option_and_then (λ b. option_map (λ bs. b ∷ bs) (each_of (test_in h t) (drop (i + 1) tests))) o)) (sym is)
-    ∙ one_more all here (each_of (test_in h t) (drop (i + 1) tests))
+module _ {X : Type 0} (f : X → Option Bool) where
+  pub goes_on : (tests : List X) (i : ℕ) (d : X) (all here : Bool) (o : Option Bool) → i < length tests → Some here ≡ f (get_or tests i d)
+      → o ≡ said all (each_of f (drop i tests)) → o ≡ said (all && here) (each_of f (drop (i + 1) tests))
+  goes_on tests i d all here o below is far =
+      far
+      ∙ ap (λ ts. said all (each_of f ts)) (drop_more tests i d below)
+      ∙ ap (λ x. said all (option_and_then (λ b. option_map (λ bs. b ∷ bs) (each_of f (drop (i + 1) tests))) x)) (sym is)
+      ∙ one_more all here (each_of f (drop (i + 1) tests))
 
-pub is_missing : (h : Head) (t : List ℕ) (tests : List Test) (i : ℕ) (d : Test) (all : Bool) → i < length tests → None ≡ test_in h t (get_or tests i d)
-    → meets h t tests ≡ said all (each_of (test_in h t) (drop i tests)) → None ≡ meets h t tests
-is_missing h t tests i d all below is far =
-    sym (far
-    ∙ ap (λ (ts : List Test). said all (each_of (test_in h t) ts)) (drop_more tests i d below)
-    ∙ ap (λ (o : Option Bool). said all (option_and_then (λ b. option_map (λ bs. b ∷ bs) (each_of (test_in h t) (drop (i + 1) tests))) o)) (sym is))
+  pub is_missing : (tests : List X) (i : ℕ) (d : X) (all : Bool) (o : Option Bool) → i < length tests → None ≡ f (get_or tests i d)
+      → o ≡ said all (each_of f (drop i tests)) → None ≡ o
+  is_missing tests i d all o below is far =
+      sym (far
+      ∙ ap (λ ts. said all (each_of f ts)) (drop_more tests i d below)
+      ∙ ap (λ x. said all (option_and_then (λ b. option_map (λ bs. b ∷ bs) (each_of f (drop (i + 1) tests))) x)) (sym is))
 
-pub ends : (h : Head) (t : List ℕ) (tests : List Test) (i : ℕ) (all : Bool) → length tests ≤ i → meets h t tests ≡ said all (each_of (test_in h t) (drop i tests)) → Some all ≡ meets h t tests
-ends h t tests i all past far = sym (far ∙ ap (λ (ts : List Test). said all (each_of (test_in h t) ts)) (drop_of_length-le tests past) ∙ by all)
-  where
-    by : (b : Bool) → said b (Some []) ≡ Some b
-    by true = refl
-    by false = refl
+  pub ends : (tests : List X) (i : ℕ) (all : Bool) (o : Option Bool) → length tests ≤ i → o ≡ said all (each_of f (drop i tests)) → Some all ≡ o
+  ends tests i all o past far = sym (far ∙ ap (λ ts. said all (each_of f ts)) (drop_of_length-le tests past) ∙ by all)
+    where
+      by : (b : Bool) → said b (Some []) ≡ Some b
+      by true = refl
+      by false = refl
+
+-- ---- whether one of them has something
+
+module _ {X : Type 0} (f : X → Bool) where
+  pub has_one : (xs : List X) (i : ℕ) (d : X) → i < length xs → f (get_or xs i d) ≡ true → list_any f xs ≡ list_any f (drop i xs) → list_any f xs ≡ true
+  has_one xs i d below is far = far ∙ ap (λ ys. list_any f ys) (drop_more xs i d below) ∙ ap (λ b. b || list_any f (drop (i + 1) xs)) is
+
+  pub has_none_yet : (xs : List X) (i : ℕ) (d : X) → i < length xs → f (get_or xs i d) ≡ false → list_any f xs ≡ list_any f (drop i xs) → list_any f xs ≡ list_any f (drop (i + 1) xs)
+  has_none_yet xs i d below is far = far ∙ ap (λ ys. list_any f ys) (drop_more xs i d below) ∙ ap (λ b. b || list_any f (drop (i + 1) xs)) is
+
+  pub has_none : (xs : List X) (i : ℕ) → length xs ≤ i → list_any f xs ≡ list_any f (drop i xs) → list_any f xs ≡ false
+  has_none xs i past far = far ∙ ap (λ ys. list_any f ys) (drop_of_length-le xs past)

@@ -28,7 +28,7 @@ use Rattle.bench_rules.specs.Headers.{named_places, header_of, extremes_in}
 use Rattle.bench_rules.specs.Looks.{query_looks}
 use Rattle.bench_rules.specs.ManyTraces.{each_of}
 use Rattle.bench_rules.specs.Tables.{table_of, found_of}
-use Rattle.bench_rules.specs.Reports.{geometry_in, fold_in, cells_in, inlines_in, crosslines_in, histogram_in, range_in, totals_in, slice_in, faults_in}
+use Rattle.bench_rules.specs.Reports.{geometry_in, fold_in, cells_in, inlines_in, crosslines_in, histogram_in, survey_in, range_in, totals_in, slice_in, faults_in}
 use Rattle.frame_cut.specs.Parts.{block_of}
 pub use Rattle.bench_rules.specs.Replies.{Reply, or_fault, of_traces, of_values}
 use Rattle.bench_rules.specs.ChosenQueries.{chosen_answer}
@@ -128,6 +128,7 @@ answer s queries.Totals = of_values s.volume.head (Ok (answers.Totals (totals_in
 answer s (queries.Slice k) = of_values s.volume.head (Ok (answers.Slice (slice_in s k)))
 answer s queries.Faults = Ok (answers.Faults (faults_in s))
 answer s queries.Problems = Ok (answers.Problems (problems_in s))
+answer s queries.Survey = Ok (answers.Survey (survey_in s))
 answer s (queries.Lines b) = lines_answer (block_of s.volume b)
 answer s (queries.Table a b fields) = of_traces s.volume a b (table_answer s.volume a b (each_of (place_in_trace s.fields) fields))
 answer s (queries.Find a b field low high) = of_traces s.volume a b (found_answer s.volume a b low high (place_in_trace s.fields field))
@@ -135,7 +136,7 @@ answer s (queries.Header p) = of_trace s.volume p (λ t. Ok (answers.Header (hea
 answer s (queries.Extremes a b) = of_traces s.volume a b (Ok (answers.Extremes (extremes_in s.volume (named_places s.fields) a b)))
 answer s (queries.OfChosen c query) = chosen_answer s.volume s.fields c query
 
--- whether a query may be refused for want of memory: its answer is a text or a list
+-- whether a query may be refused for want of memory: its answer is a text or a list, or what it tells is counted in one
 abbrev pub TakesMemory : Query → Type 0
 TakesMemory queries.Count = ⊥
 TakesMemory queries.Info = ⊥
@@ -158,6 +159,7 @@ TakesMemory queries.Totals = ⊥
 TakesMemory (queries.Slice k) = Unit {0}
 TakesMemory queries.Faults = Unit {0}
 TakesMemory queries.Problems = Unit {0}
+TakesMemory queries.Survey = Unit {0}
 TakesMemory (queries.Lines b) = Unit {0}
 TakesMemory (queries.Table a b fields) = Unit {0}
 TakesMemory (queries.Find a b field low high) = Unit {0}

@@ -15,7 +15,7 @@ use Rattle.bench_rules.specs.declared.refusal.Refusal.{Refusal}
 use Rattle.bench_rules.specs.declared.refusal.Refusal.TheVariants as refusals
 use Rattle.bench_rules.specs.declared.test.Test.{Test}
 use Rattle.bench_rules.specs.Computed.{Formula, formula_of, compute_refusal, computed_in, first_at, number_at}
-use Rattle.bench_rules.specs.Conditions.{chosen, chosen_among, is_empty, range_of, tests_of}
+use Rattle.bench_rules.specs.Conditions.{chosen, chosen_among, is_empty, lacks_values, range_of, tests_of}
 use Rattle.bench_rules.specs.FilledSamples.{filled, samples_refusal, sample_value_refusal}
 use Rattle.bench_rules.specs.ManyTraces.{each_of}
 use Rattle.bench_rules.specs.Places.{place_in_trace}
@@ -69,12 +69,13 @@ abbrev pub refusal_of_chosen : Volume → Pairs → ChosenEdit → Option (List 
 refusal_of_chosen v fields edit None = Some refusals.NoPlace
 refusal_of_chosen v fields edit (Some ps) = refusal_of_edit v fields edit ps
 
--- the refusal under these conditions: E02 where a field of one has no place
+-- the refusal under these conditions: E02 where a field of one has no place, E12 where one asks for values that samples have not
 abbrev pub refusal_under : Volume → Pairs → Option (ℕ × ℕ) → ChosenEdit → Option (List Test) → Option Refusal
 refusal_under v fields range edit None = Some refusals.NoField
-refusal_under v fields range edit (Some tests) = refusal_of_chosen v fields edit (chosen_among v tests (range_of range))
+refusal_under v fields range edit (Some tests) =
+    if lacks_values v.head.format tests then Some refusals.NoValues else refusal_of_chosen v fields edit (chosen_among v tests (range_of range))
 
--- the first refusal: E01, E02, E03, then what the edit refuses
+-- the first refusal: E01, E02, E12, E03, then what the edit refuses
 abbrev pub chosen_refusal : Volume → Pairs → Chosen → ChosenEdit → Option Refusal
 chosen_refusal v fields c edit =
     option_or (range_refusal v c.traces)

@@ -17,6 +17,7 @@ use Rattle.bench_rules.specs.declared.field.Field.TheVariants as field
 use Rattle.bench_rules.specs.declared.operand.Operand.TheVariants as operand
 use Rattle.bench_rules.specs.declared.query.Query.TheVariants as queries
 use Rattle.bench_rules.specs.declared.refusal.Refusal.TheVariants as refusals
+use Rattle.bench_rules.specs.declared.side.Side.TheVariants as side
 use Rattle.bench_rules.specs.After.{bytes_after}
 use Rattle.bench_rules.specs.Answer.{answer}
 use Rattle.bench_rules.specs.ChosenEdits.{count_told, counted_each, without_each}
@@ -30,19 +31,19 @@ loaded = record { volume = volume_plain; fields = geometry_at_load; reading = as
 
 -- crossline >= 22
 abbrev from_22 : Condition
-from_22 = record { left = operand.Field (field.Name (codes "crossline")); comparison = AtLeast; right = operand.Number (pos 22) }
+from_22 = record { left = side.Operand (operand.Field (field.Name (codes "crossline"))); comparison = AtLeast; right = side.Operand (operand.Number (pos 22)) }
 
 -- offset < 300
 abbrev below_300 : Condition
-below_300 = record { left = operand.Field (field.Name (codes "offset")); comparison = Less; right = operand.Number (pos 300) }
+below_300 = record { left = side.Operand (operand.Field (field.Name (codes "offset"))); comparison = Less; right = side.Operand (operand.Number (pos 300)) }
 
 -- a byte that no trace has
 abbrev far : Condition
-far = record { left = operand.Field (field.Place (signed_at 240 4)); comparison = Unequal; right = operand.Number (pos 0) }
+far = record { left = side.Operand (operand.Field (field.Place (signed_at 240 4))); comparison = Unequal; right = side.Operand (operand.Number (pos 0)) }
 
 -- a name of nothing
 abbrev unknown : Condition
-unknown = record { left = operand.Field (field.Name (codes "crosline")); comparison = Unequal; right = operand.Number (pos 0) }
+unknown = record { left = side.Operand (operand.Field (field.Name (codes "crosline"))); comparison = Unequal; right = side.Operand (operand.Number (pos 0)) }
 
 pub chosen-one : chosen volume_plain geometry_at_load (record { traces = Some (1, 3); conditions = from_22 ∷ [] }) ≡ Some (2 ∷ 3 ∷ [])
 chosen-one = refl

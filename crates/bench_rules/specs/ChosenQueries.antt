@@ -8,13 +8,13 @@ use Rattle.trace_view.specs.Values.{value_of}
 use Rattle.bench_rules.specs.declared.answer.Answer.{Answer}
 use Rattle.bench_rules.specs.declared.answer.Answer.TheVariants as answers
 use Rattle.bench_rules.specs.declared.ask_fault.AskFault.{AskFault}
-use Rattle.bench_rules.specs.declared.ask_fault.AskFault.TheVariants.{NoField, NoPlace}
+use Rattle.bench_rules.specs.declared.ask_fault.AskFault.TheVariants.{NoField, NoPlace, NoValues}
 use Rattle.bench_rules.specs.declared.chosen.Chosen.{Chosen}
 use Rattle.bench_rules.specs.declared.chosen_query.ChosenQuery.{ChosenQuery}
 use Rattle.bench_rules.specs.declared.chosen_query.ChosenQuery.TheVariants.{Count, Table, Find, Extremes, Stats}
 use Rattle.bench_rules.specs.declared.extremes.Extremes.{Extremes as ExtremesOfNumbers}
 use Rattle.bench_rules.specs.declared.test.Test.{Test}
-use Rattle.bench_rules.specs.Conditions.{chosen_among, range_of, tests_of}
+use Rattle.bench_rules.specs.Conditions.{chosen_among, lacks_values, range_of, tests_of}
 use Rattle.bench_rules.specs.Headers.{extremes_unless_zero, named_places, with_name}
 use Rattle.bench_rules.specs.ManyTraces.{each_of}
 use Rattle.bench_rules.specs.Places.{place_in_trace}
@@ -73,17 +73,18 @@ abbrev pub answer_of_chosen : Volume → Pairs → ChosenQuery → Option (List 
 answer_of_chosen v fields query None = Err NoPlace
 answer_of_chosen v fields query (Some ps) = answer_of_each v fields query ps
 
--- the same under these conditions: E02 where a field of one has no place
+-- the same under these conditions: E02 where a field of one has no place, E12 where one asks for values that samples have not
 abbrev pub answer_under : Volume → Pairs → Option (ℕ × ℕ) → ChosenQuery → Option (List Test) → Reply
 answer_under v fields range query None = Err NoField
-answer_under v fields range query (Some tests) = answer_of_chosen v fields query (chosen_among v tests (range_of range))
+answer_under v fields range query (Some tests) =
+    if lacks_values v.head.format tests then Err NoValues else answer_of_chosen v fields query (chosen_among v tests (range_of range))
 
 -- the same where the traces of the range are there
 abbrev pub of_range : Volume → Option (ℕ × ℕ) → Reply → Reply
 of_range v None reply = reply
 of_range v (Some r) reply = of_traces v r.0 r.1 reply
 
--- the answer, or the first refusal: E01, E02, E03, then what the query refuses
+-- the answer, or the first refusal: E01, E02, E12, E03, then what the query refuses
 abbrev pub chosen_answer : Volume → Pairs → Chosen → ChosenQuery → Reply
 chosen_answer v fields c query =
     of_range v c.traces (if not (asks_for_fields fields query) then Err NoField else answer_under v fields c.traces query (tests_of fields c.conditions))

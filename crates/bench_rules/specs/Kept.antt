@@ -13,7 +13,7 @@ use Rattle.bench_rules.specs.KeptSlices.{is_from}
 use Rattle.bench_rules.specs.declared.edit.Edit.{Edit}
 use Rattle.bench_rules.specs.declared.edit.Edit.TheVariants.{Set, SetBin, Declare, DropTail, SetText, Map, MapAs, Unmap, Patch, Blank, Copy, Delete, Move, MoveBlock, Resize, Renumber, Compute, Sort, OfChosen}
 use Rattle.bench_rules.specs.declared.query.Query.{Query}
-use Rattle.bench_rules.specs.declared.query.Query.TheVariants.{Count, Info, Get, GetBin, Line, Lines, Code, Stanzas, Fields, Sample, Geometry, Stat, Fold, Grid, Inlines, Crosslines, Histogram, Range, Totals, Slice, Faults, Problems, Table, Find, Header, Extremes, OfChosen as AskOfChosen}
+use Rattle.bench_rules.specs.declared.query.Query.TheVariants.{Count, Info, Get, GetBin, Line, Lines, Code, Stanzas, Fields, Sample, Geometry, Stat, Fold, Grid, Inlines, Crosslines, Histogram, Range, Totals, Slice, Faults, Problems, Survey, Table, Find, Header, Extremes, OfChosen as AskOfChosen}
 use Rattle.bench_rules.specs.Computed.{Formula, formula_of, computed_numbers}
 use Rattle.bench_rules.specs.Places.{place_in_trace}
 use Rattle.bench_rules.specs.Refused.{with_value}
@@ -55,6 +55,7 @@ kept_after_query (Range quantity) kept = kept
 kept_after_query Totals kept = kept
 kept_after_query Faults kept = kept
 kept_after_query Problems kept = kept
+kept_after_query Survey kept = kept
 kept_after_query (Lines b) kept = kept
 kept_after_query (Table a b fields) kept = kept
 kept_after_query (Find a b field low high) kept = kept

@@ -27,15 +27,18 @@ pub mod MappingExamples
 pub mod NumberExamples
 pub mod Places
 pub mod Problems
+pub mod PositionExamples
 pub mod RefusalExamples
 pub mod Refused
 pub mod ReportExamples
 pub mod Replies
 pub mod Reports
 pub mod SetRefusals
+pub mod SideValues
 pub mod Sorted
 pub mod SwappedFields
 pub mod SwapExamples
+pub mod FactExamples
 pub mod FilledSamples
 pub mod FillExamples
 pub mod SortedExamples
@@ -55,5 +58,6 @@ pub mod KeptSlices
 pub mod KeptSliceExamples
 pub mod RangeFaults
 pub mod RangeRefusals
+pub mod SampleFacts
 pub mod SampleStatistics
 pub mod SampleStatisticsExamples

@@ -18,7 +18,7 @@ use Rattle.bench_rules.specs.declared.chosen_query.ChosenQuery.{ChosenQuery}
 use Rattle.bench_rules.specs.declared.chosen_query.ChosenQuery.TheVariants as chosen_queries
 use Rattle.bench_rules.specs.Computed.{formula_of}
 use Rattle.bench_rules.specs.declared.test.Test.{Test}
-use Rattle.bench_rules.specs.Conditions.{chosen, tests_of}
+use Rattle.bench_rules.specs.Conditions.{asked_tests, chosen}
 use Rattle.bench_rules.specs.Kept.{is_kept}
 use Rattle.bench_rules.specs.ManyTraces.{each_of}
 use Rattle.bench_rules.specs.Places.{place_in_trace, leaves_length}
@@ -68,15 +68,15 @@ abbrev pub range_looks_of : Volume → Option (ℕ × ℕ) → ℕ
 range_looks_of v None = 0
 range_looks_of v (Some r) = range_looks v r.0 r.1
 
--- so many looks, but none where a field of a condition has no place, or the records tell both sides of each
+-- so many looks, but none where there are no such conditions, or the records tell both sides of each
 abbrev pub judging_looks : Pairs → Option (List Test) → ℕ → ℕ
 judging_looks fields None n = 0
 judging_looks fields (Some tests) n = if tells_tests fields tests then 0 else n
 
 -- the looks that choosing takes: one at each trace of the range, where the conditions have a field that the records do not tell, and
--- the fields of all have places
+-- the fields of all have places, and samples the values that are asked for
 abbrev pub choosing_looks : Volume → Pairs → Chosen → ℕ
-choosing_looks v fields c = judging_looks fields (tests_of fields c.conditions) (range_looks_of v c.traces)
+choosing_looks v fields c = judging_looks fields (asked_tests v.head.format fields c.conditions) (range_looks_of v c.traces)
 
 -- the looks of an edit of so many traces; a number that the records tell needs none
 abbrev pub each_looks : Pairs → ChosenEdit → ℕ → ℕ
@@ -108,9 +108,10 @@ chosen_edit_looks v fields c edit = choosing_looks v fields c + looks_at_chosen 
 abbrev pub chosen_query_looks : Volume → Pairs → Chosen → ChosenQuery → ℕ
 chosen_query_looks v fields c query = choosing_looks v fields c + looks_at_chosen (asking_looks query) (chosen v fields c)
 
--- no more traces are chosen than the range has, whatever is read; none, where a field of a condition has no place
+-- no more traces are chosen than the range has, whatever is read; none, where a field of a condition has no place, or samples have no
+-- values that are asked for
 abbrev pub most_chosen : Volume → Pairs → Chosen → ℕ
-most_chosen v fields c = looks_at (tests_of fields c.conditions) (range_looks_of v c.traces)
+most_chosen v fields c = looks_at (asked_tests v.head.format fields c.conditions) (range_looks_of v c.traces)
 
 -- the most looks of an edit of chosen traces, whatever is read
 abbrev pub most_edit_looks : Volume → Pairs → Chosen → ChosenEdit → ℕ
@@ -167,6 +168,7 @@ query_looks s kept queries.Totals = 0
 query_looks s kept (queries.Slice k) = value_looks (values s.volume.head.format) (if is_kept k kept then 0 else count_of s.volume)
 query_looks s kept queries.Faults = 0
 query_looks s kept queries.Problems = count_of s.volume
+query_looks s kept queries.Survey = 0
 query_looks s kept (queries.Table a b fields) = looks_at (each_of (place_in_trace s.fields) fields) (range_looks s.volume a b)
 query_looks s kept (queries.Find a b field low high) = looks_at (place_in_trace s.fields field) (range_looks s.volume a b)
 query_looks s kept (queries.Header p) = trace_looks s.volume p 1

@@ -12,6 +12,7 @@ use Rattle.bench_rules.specs.declared.field.Field.{Field}
 use Rattle.bench_rules.specs.declared.field.Field.TheVariants as field
 use Rattle.bench_rules.specs.declared.operand.Operand.TheVariants as operand
 use Rattle.bench_rules.specs.declared.query.Query.TheVariants as queries
+use Rattle.bench_rules.specs.declared.side.Side.TheVariants as side
 use Rattle.bench_rules.specs.KeptExamples.{loaded}
 use Rattle.bench_rules.specs.Looks.{edit_looks, query_looks}
 
@@ -46,11 +47,11 @@ all_with conditions = record { traces = Some (1, 3); conditions = conditions }
 
 -- a field that is at least another
 abbrev at_least : Field → Field → Condition
-at_least a b = record { left = operand.Field a; comparison = AtLeast; right = operand.Field b }
+at_least a b = record { left = side.Operand (operand.Field a); comparison = AtLeast; right = side.Operand (operand.Field b) }
 
 -- a field that is not 0
 abbrev not_zero : Field → Condition
-not_zero f = record { left = operand.Field f; comparison = Unequal; right = operand.Number (pos 0) }
+not_zero f = record { left = side.Operand (operand.Field f); comparison = Unequal; right = side.Operand (operand.Number (pos 0)) }
 
 -- inlines, crosslines, offsets and sequence numbers are told by the records: no trace is looked at to choose by them; where one field
 -- is not told, each trace is, once; and of a name that stands for nothing none

@@ -20,13 +20,13 @@ fault_of (Some answer) = OutOfMemory
 abbrev pub IsFaultFor : AskFault → Reply → Type 0
 IsFaultFor fault reply = (reply ≡ Err fault) ⊎ ((fault ≡ OutOfMemory) × IsOk reply)
 
--- the refusal of a sort for whose numbers there is no table
+-- the refusal of an edit whose traces are not chosen, or of a sort for whose numbers there is no table
 abbrev pub refusal_for : AskFault → Refusal
 refusal_for NoField = refusals.NoField
 refusal_for NoPlace = refusals.NoPlace
 refusal_for ReadFailed = refusals.ReadFailed
 refusal_for FileChanged = refusals.FileChanged
 refusal_for OutOfMemory = refusals.OutOfMemory
-refusal_for NoValues = refusals.OutOfMemory
+refusal_for NoValues = refusals.NoValues
 refusal_for (NoTrace p count) = refusals.OutOfMemory
 refusal_for (NoSample k count) = refusals.OutOfMemory

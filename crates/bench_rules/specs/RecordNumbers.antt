@@ -1,4 +1,4 @@
--- Numbers of conditions that the record beside a trace tells: no byte of the trace is needed for them.
+-- Sides of conditions that the record beside a trace tells: no byte of the trace is needed for them.
 use Rattle.std.specs.Prelude.{◌≡◌, ℕ, ◌==◌, ◌&&◌, ◌||◌, Bool, true, false, List, codes, refl}
 use Rattle.std.specs.List.{list_all}
 use Rattle.std.specs.Option.{option_map_or}
@@ -9,6 +9,8 @@ use Rattle.trace_view.specs.Values.{is_in_header}
 use Rattle.bench_rules.specs.declared.term.Term.{Term}
 use Rattle.bench_rules.specs.declared.term.Term.TheVariants as terms
 use Rattle.bench_rules.specs.declared.test.Test.{Test}
+use Rattle.bench_rules.specs.declared.test_side.TestSide.{TestSide}
+use Rattle.bench_rules.specs.declared.test_side.TestSide.TheVariants as sides
 
 -- the two are one place, of a number of the main header that has a sign
 abbrev pub is_one_number : Place → Place → Bool
@@ -39,9 +41,15 @@ abbrev pub tells_term : Pairs → Term → Bool
 tells_term fields (terms.Number x) = true
 tells_term fields (terms.At place) = tells_place fields place
 
+-- one of these, a decimal, or a fact about samples, which stands in each record
+abbrev pub tells_side : Pairs → TestSide → Bool
+tells_side fields (sides.Term term) = tells_term fields term
+tells_side fields (sides.Decimal a) = true
+tells_side fields (sides.Fact fact) = true
+
 -- both sides of a condition are told
 abbrev pub tells_test : Pairs → Test → Bool
-tells_test fields test = tells_term fields test.left && tells_term fields test.right
+tells_test fields test = tells_side fields test.left && tells_side fields test.right
 
 -- both sides of each condition are told
 abbrev pub tells_tests : Pairs → List Test → Bool

@@ -14,7 +14,7 @@ use Rattle.bench_rules.specs.declared.ask_fault.AskFault.TheVariants.{NoTrace}
 use Rattle.bench_rules.specs.State.{State}
 
 -- the survey's three traces in a file
-abbrev loaded : State
+abbrev pub loaded : State
 loaded = record { volume = volume_plain; fields = geometry_at_load; reading = as_written; limits = wide_limits; on_disk = false }
 
 pub records-plain : records loaded ≡ survey

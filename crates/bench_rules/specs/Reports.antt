@@ -20,6 +20,8 @@ use Rattle.range_stats.specs.declared.quantity.Quantity.{Quantity}
 use Rattle.fault_live.specs.Faults.{faults_of}
 use Rattle.fault_live.specs.declared.fault.Fault.{Fault}
 use Rattle.fault_live.specs.declared.head_facts.HeadFacts.{HeadFacts}
+use Rattle.cell_positions.specs.Survey.{survey_of}
+use Rattle.cell_positions.specs.declared.survey.SurveyGrid.{SurveyGrid}
 use Rattle.bench_rules.specs.Slices.{slice_of}
 use Rattle.bench_rules.specs.declared.row.Row.{Row}
 use Rattle.bench_rules.specs.declared.location.Location.{Location}
@@ -74,6 +76,10 @@ crosslines_in s = crosslines (records s)
 -- the folds that occur, each with its number of cells
 abbrev pub histogram_in : State → List FoldCount
 histogram_in s = histogram (records s)
+
+-- the grid of the survey in one line; nothing without traces
+abbrev pub survey_in : State → Option SurveyGrid
+survey_in s = survey_of (records s)
 
 -- ---- ranges, totals and single traces
 

@@ -8,6 +8,7 @@ use crate::row::Row;
 use crate::table::Table;
 use crate::text::Text;
 use crate::trace_statistics::{FloatTraceStatistics, TraceStatistics};
+use cell_positions::SurveyGrid;
 use fault_live::Fault;
 use field_map::Place;
 use grid_live::{Cell, FoldCount};
@@ -61,6 +62,8 @@ pub enum Answer {
     Faults(Items<Fault>),
     /// The problems in the order of their codes, each with its first runs behind it.
     Problems(Items<ProblemLine>),
+    /// `None` without traces.
+    Survey(Option<SurveyGrid>),
     /// For each trace its position and its numbers in the fields that were asked.
     Table(Table),
     /// The positions of the traces that were found, rising, each with its number.

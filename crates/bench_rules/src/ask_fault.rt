@@ -107,6 +107,16 @@ impl From<line_problems::OutOfMemory> for AskFault {
     }
 }
 
+impl From<cell_positions::OutOfMemory> for AskFault {
+    ghost use Rattle.bench_rules.specs.declared.ask_fault.AskFault.TheVariants.{OutOfMemory as no_memory};
+
+    ghost from_gives = { λ _ fault. fault ≡ no_memory };
+
+    fn from(_: cell_positions::OutOfMemory) -> AskFault {
+        AskFault::OutOfMemory
+    }
+}
+
 impl From<trace_groups::OutOfMemory> for AskFault {
     ghost use Rattle.bench_rules.specs.declared.ask_fault.AskFault.TheVariants.{OutOfMemory as no_memory};
 

@@ -1,10 +1,10 @@
 use crate::comparison::Comparison;
-use crate::operand::Operand;
+use crate::side::Side;
 
-/// What a trace has to meet to be chosen: two numbers or fields of it, and how they compare.
+/// What a trace has to meet to be chosen: two sides, and how they compare.
 #[derive(Drop)]
 pub struct Condition {
-    pub left: Operand,
+    pub left: Side,
     pub comparison: Comparison,
-    pub right: Operand,
+    pub right: Side,
 }

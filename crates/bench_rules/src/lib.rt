@@ -35,10 +35,14 @@ mod refusal;
 mod renumber;
 mod resize;
 mod row;
+mod sample_fact;
 mod samples;
+mod side;
+mod side_value;
 mod table;
 mod term;
 mod test;
+mod test_side;
 mod text;
 mod text_lines;
 mod trace_bytes;
@@ -65,7 +69,8 @@ pub use crate::location::Location;
 pub use crate::mapping::Mapping;
 pub use crate::mappings::bindings;
 pub use crate::of_volume::{
-    float_format, has_float_samples, has_opaque_samples, has_trace, place_in_trace, range_fault,
+    float_format, has_float_samples, has_opaque_samples, has_trace, is_shot_file, place_in_trace,
+    range_fault,
 };
 pub use crate::operand::Operand;
 pub use crate::operator::Operator;
@@ -75,13 +80,17 @@ pub use crate::refusal::Refusal;
 pub use crate::renumber::{counted_up, renumber_refusal, values_bytes};
 pub use crate::resize::{count_refusal, resized};
 pub use crate::row::Row;
+pub use crate::sample_fact::{SampleFact, fact_value};
 pub use crate::samples::{
     float_stat, patch_refusal, sample_place, sample_value_refusal, samples_refusal,
     statistics_of_floats, trace_sample,
 };
+pub use crate::side::Side;
+pub use crate::side_value::SideValue;
 pub use crate::table::Table;
 pub use crate::term::Term;
-pub use crate::test::{Test, meets_all, test_of};
+pub use crate::test::{Test, lacks_values, meets_all, test_of};
+pub use crate::test_side::TestSide;
 pub use crate::text::Text;
 pub use crate::text_lines::is_line;
 pub use crate::trace_bytes::{

@@ -6,6 +6,7 @@ ghost use Rattle.trace_view.specs.Values.{has_floats};
 ghost use Rattle.bench_rules.specs.Answer.{of_traces, Reply};
 ghost use Rattle.bench_rules.specs.FloatStatistics.{float_format as float_format_of};
 ghost use Rattle.bench_rules.specs.Places.{place_in_trace as place_of_field};
+ghost use Rattle.bench_rules.specs.Problems.{is_shot_file as is_shot_file_of, stands_at as stands_at_of};
 ghost use Rattle.bench_rules.specs.RangeFaults.{or_fault};
 
 use crate::ask_fault::AskFault;
@@ -65,6 +66,24 @@ pub fn float_format(overlay: &Overlay<PackedRecord>) -> Option<FloatFormat>
     match overlay.head().format {
         Format::Valued(ValueFormat::Float(format)) => Some(format),
         Format::Valued(ValueFormat::Integer(_)) | Format::Opaque(_) => None,
+    }
+}
+
+/// Whether inline and crossline are bound to the places of the field record and of the trace in it,
+/// so that a cell is a trace of a shot. Takes no memory.
+pub fn is_shot_file(map: &FieldMap) -> bool
+    ensures { result ≡ is_shot_file_of map.now.pairs }
+{
+    stands_at(map, "inline", 9) && stands_at(map, "crossline", 13)
+}
+
+// Whether the name is bound to this byte of the main header.
+fn stands_at(map: &FieldMap, name: &str, byte: u16) -> bool
+    ensures { result ≡ stands_at_of map.now.pairs name.now byte }
+{
+    match map.place(name) {
+        Some(place) => place.extension == 0 && place.byte == byte,
+        None => false,
     }
 }
 

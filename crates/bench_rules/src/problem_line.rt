@@ -1,3 +1,4 @@
+use cell_positions::TracePair;
 use line_problems::{MissingRun, NoSurvey, UnevenFold};
 use trace_groups::{Run, TraceProblem};
 
@@ -25,4 +26,14 @@ pub enum ProblemLine {
     Missing(MissingRun),
     /// S9: a few cells have another fold than the others.
     Fold(UnevenFold),
+    /// S10 `Jumps(pairs, jumps)`: of so many pairs of neighbouring cells so many have positions
+    /// that jump.
+    Jumps(u64, u64),
+    /// The first traces of two cells whose positions jump.
+    Jump(TracePair),
+    /// S11 `SharedPositions(cells)`: so many cells stand where a cell before them does.
+    SharedPositions(u64),
+    /// The first trace of a cell that stands where one before it does, and that of the first cell
+    /// there.
+    SharedPosition(TracePair),
 }

@@ -55,6 +55,9 @@ pub enum Query {
     /// All that is wrong or doubtful, grouped: the faults, and what the numbers of the traces make
     /// suspicious. Looks at each trace once.
     Problems,
+    /// The grid of the survey in one line: its inlines and crosslines that are not far from the
+    /// others, how far neighbouring cells stand apart, and how many cells there are.
+    Survey,
     /// `Table(a, b, fields)`: these header fields of each of traces a to b. Refused, in this order:
     /// E01 for a, E01 for b, E02 where a field has no place, E03 where one of the traces lacks a
     /// place.

@@ -1,29 +1,37 @@
-// A condition on the numbers of one trace.
+// A condition on one trace.
 ghost use Rattle.std.specs.Prelude.{◌≡◌};
+ghost use Rattle.std.specs.List.{list_any};
 ghost use Rattle.trace_view.specs.Shown.{bytes_of, head_of};
-ghost use Rattle.bench_rules.specs.Conditions.{meets, test_in as test_in_trace, test_of as test_of_condition};
+ghost use Rattle.bench_rules.specs.Conditions.{are_comparable as may_compare, asks_values as asks_values_of, lacks_values as lack_values, meets_by, test_by, test_of as test_of_condition};
+ghost use Rattle.bench_rules.specs.SampleFacts.{is_decimal as is_a_decimal, is_extreme as is_an_extreme};
 
 use crate::comparison::{Comparison, compares};
-use crate::computation::{term_in, term_of};
 use crate::condition::Condition;
-use crate::term::Term;
+use crate::sample_fact::SampleFact;
+use crate::test_side::{TestSide, side_of, value_of};
 use field_map::FieldMap;
+use sample_codes::Format;
+use trace_record::Amplitudes;
 use trace_view::TraceView;
 
 /// A condition whose fields are found.
 #[derive(Clone, Copy, Debug, PartialEq, Eq)]
 pub struct Test {
-    pub left: Term,
+    pub left: TestSide,
     pub comparison: Comparison,
-    pub right: Term,
+    pub right: TestSide,
 }
 
-/// The condition with the places of its fields, where each has one. Takes no memory.
+/// The condition with the places of its fields, where each has one or names a fact about samples,
+/// and where a decimal is beside the least or the greatest sample alone. Takes no memory.
 pub fn test_of(map: &FieldMap, condition: &Condition) -> Option<Test>
     ensures { result ≡ test_of_condition map.now.pairs condition.now }
 {
-    let left = term_of(map, &condition.left)?;
-    let right = term_of(map, &condition.right)?;
+    let left = side_of(map, &condition.left)?;
+    let right = side_of(map, &condition.right)?;
+    if !are_comparable(left, right) {
+        return None;
+    }
     Some(Test {
         left,
         comparison: condition.comparison,
@@ -31,14 +39,74 @@ pub fn test_of(map: &FieldMap, condition: &Condition) -> Option<Test>
     })
 }
 
-/// Whether a trace meets all conditions; `None` where it lacks a place of one of them, whatever the
-/// others say. Takes no memory.
-pub fn meets_all(trace: &TraceView<'_>, tests: &[Test]) -> Option<bool>
-    ensures { result ≡ meets (head_of trace.now) (bytes_of trace.now) tests.now }
+// Whether each decimal of the two is beside the least or the greatest sample.
+fn are_comparable(left: TestSide, right: TestSide) -> bool
+    ensures { result ≡ may_compare left right }
+{
+    (!is_decimal(left) || is_extreme(right)) && (!is_decimal(right) || is_extreme(left))
+}
+
+fn is_decimal(side: TestSide) -> bool
+    ensures { result ≡ is_a_decimal side }
+{
+    match side {
+        TestSide::Decimal(_) => true,
+        TestSide::Term(_) | TestSide::Fact(_) => false,
+    }
+}
+
+// Whether it is the least or the greatest sample.
+fn is_extreme(side: TestSide) -> bool
+    ensures { result ≡ is_an_extreme side }
+{
+    match side {
+        TestSide::Fact(fact) => match fact {
+            SampleFact::Least | SampleFact::Greatest => true,
+            SampleFact::Count => false,
+        },
+        TestSide::Term(_) | TestSide::Decimal(_) => false,
+    }
+}
+
+/// Whether a condition asks for values of samples, and those of the format have none: E12. Takes no
+/// memory.
+pub fn lacks_values(format: Format, tests: &[Test]) -> bool
+    ensures { result ≡ lack_values format tests.now }
+{
+    ask_values(tests) && format.values().is_none()
+}
+
+// Whether one of the conditions is on the least or the greatest sample.
+fn ask_values(tests: &[Test]) -> bool
+    ensures { result ≡ list_any asks_values_of tests.now }
+{
+    for test in tests {
+        if asks_values(*test) {
+            return true;
+        }
+    }
+    false
+}
+
+// Whether the condition is on the least or the greatest sample.
+fn asks_values(test: Test) -> bool
+    ensures { result ≡ asks_values_of test }
+{
+    is_extreme(test.left) || is_extreme(test.right)
+}
+
+/// Whether a trace whose samples have these amplitudes meets all conditions; `None` where it lacks
+/// a place of one of them, whatever the others say. Takes no memory.
+pub fn meets_all(
+    trace: &TraceView<'_>,
+    amplitudes: Option<Amplitudes>,
+    tests: &[Test],
+) -> Option<bool>
+    ensures { result ≡ meets_by (head_of trace.now) (bytes_of trace.now) amplitudes tests.now }
 {
     let mut all = true;
     for test in tests {
-        let Some(here) = meets_one(trace, *test) else {
+        let Some(here) = meets_one(trace, amplitudes, *test) else {
             return None;
         };
         all &= here;
@@ -46,11 +114,11 @@ pub fn meets_all(trace: &TraceView<'_>, tests: &[Test]) -> Option<bool>
     Some(all)
 }
 
-// Whether a trace meets a condition; `None` where it lacks a place of it.
-fn meets_one(trace: &TraceView<'_>, test: Test) -> Option<bool>
-    ensures { result ≡ test_in_trace (head_of trace.now) (bytes_of trace.now) test }
+// Whether the trace meets a condition; `None` where it lacks a place of it.
+fn meets_one(trace: &TraceView<'_>, amplitudes: Option<Amplitudes>, test: Test) -> Option<bool>
+    ensures { result ≡ test_by (head_of trace.now) (bytes_of trace.now) amplitudes test }
 {
-    let left = term_in(trace, test.left)?;
-    let right = term_in(trace, test.right)?;
+    let left = value_of(trace, amplitudes, test.left)?;
+    let right = value_of(trace, amplitudes, test.right)?;
     Some(compares(test.comparison, left, right))
 }

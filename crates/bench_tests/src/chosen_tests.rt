@@ -3,9 +3,9 @@ use crate::report_tests::on_survey;
 use crate::tests::{has, meets, shows, signed};
 use bench_core::{
     Answer, AskFault, Bench, Chosen, ChosenEdit, ChosenQuery, Comparison, Condition, Edit, Field,
-    Items, Operand, Query, Refusal,
+    Items, Operand, Query, Refusal, Side, Text,
 };
-use std::alloc::Global;
+use std::alloc::{AllocError, Global};
 use std::process::Abort;
 use std::test::Fail;
 
@@ -25,9 +25,9 @@ fn all(alloc: Global) -> Chosen {
 // Those on crossline 22 and behind; none where there is no memory for the condition.
 fn behind(alloc: Global) -> Chosen {
     let condition = Condition {
-        left: Operand::Field(crossline()),
+        left: Side::Operand(Operand::Field(crossline())),
         comparison: Comparison::AtLeast,
-        right: Operand::Number(22),
+        right: Side::Operand(Operand::Number(22)),
     };
     let mut conditions = Vec::new(alloc);
     match conditions.push(condition) {
@@ -112,5 +112,56 @@ fn swaps_and_deletes_chosen_traces(rt: HostRuntime) -> Result<(), Fail> {
     on_survey(
         alloc,
         &mut |bench: &mut Bench| swap_and_delete(&rt, alloc, bench),
+    )
+}
+
+// A least sample below 0, and another number of the trace that is at least 0.
+fn below_zero(alloc: Global, other: Field) -> Result<Items<Condition>, AllocError> {
+    let name = Text::new(String::from_str(alloc, "sample_least")?);
+    let conditions = vec![in alloc;
+        Condition {
+            left: Side::Operand(Operand::Field(Field::Name(name))),
+            comparison: Comparison::Less,
+            right: Side::Operand(Operand::Number(0)),
+        },
+        Condition {
+            left: Side::Operand(Operand::Field(other)),
+            comparison: Comparison::AtLeast,
+            right: Side::Operand(Operand::Number(0)),
+        },
+    ]?;
+    Ok(Items::new(conditions))
+}
+
+// How many traces meet both; none where there is no memory for them.
+fn count_below_zero(alloc: Global, bench: &mut Bench, other: Field) -> Option<u32> {
+    let Ok(conditions) = below_zero(alloc, other) else {
+        return None;
+    };
+    let chosen = Chosen {
+        traces: Some((1, 3)),
+        conditions,
+    };
+    match bench.ask(alloc, &Query::OfChosen(chosen, ChosenQuery::Count)) {
+        Ok(Answer::Chosen(count)) => Some(count),
+        _ => None,
+    }
+}
+
+// The records tell the least sample and the crossline; the scalar is looked at in each trace.
+fn count_by_samples(rt: &impl Abort, alloc: Global, bench: &mut Bench) {
+    assert!(rt; count_below_zero(alloc, bench, crossline()) == Some(2));
+    assert!(rt; count_below_zero(alloc, bench, signed(0, 71, 2)) == Some(2));
+    assert!(rt; meets(bench, alloc, fill(behind(alloc), 0, 1, 5), None));
+    assert!(rt; count_below_zero(alloc, bench, crossline()) == Some(1));
+    assert!(rt; count_below_zero(alloc, bench, signed(0, 71, 2)) == Some(1));
+}
+
+#[test]
+fn chooses_traces_by_their_samples(rt: HostRuntime) -> Result<(), Fail> {
+    let alloc = rt.alloc();
+    on_survey(
+        alloc,
+        &mut |bench: &mut Bench| count_by_samples(&rt, alloc, bench),
     )
 }

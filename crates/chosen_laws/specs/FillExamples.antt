@@ -21,6 +21,7 @@ use Rattle.bench_rules.specs.declared.edit.Edit.TheVariants.{OfChosen}
 use Rattle.bench_rules.specs.declared.field.Field.TheVariants as field
 use Rattle.bench_rules.specs.declared.operand.Operand.TheVariants as operand
 use Rattle.bench_rules.specs.declared.refusal.Refusal.TheVariants as refusals
+use Rattle.bench_rules.specs.declared.side.Side.TheVariants as sides
 use Rattle.bench_rules.specs.After.{bytes_after}
 use Rattle.bench_rules.specs.Refused.{first_refusal}
 use Rattle.bench_rules.specs.State.{State}
@@ -43,7 +44,7 @@ untold = of_file volume_untold (record as_opaque { order = Some Little })
 
 -- a byte that no trace has
 abbrev far : Condition
-far = record { left = operand.Field (field.Place (signed_at 240 4)); comparison = Unequal; right = operand.Number (pos 0) }
+far = record { left = sides.Operand (operand.Field (field.Place (signed_at 240 4))); comparison = Unequal; right = sides.Operand (operand.Number (pos 0)) }
 
 -- no value comes before no sample, whether a trace is chosen or none
 pub refused-no_values : first_refusal untold (of_range 1 [] 9 9 (pos 1)) ≡ Some refusals.NoValues

@@ -9,7 +9,7 @@ use Rattle.frame_cut.specs.Volume.{Volume}
 use Rattle.bench_rules.specs.declared.chosen.Chosen.{Chosen}
 use Rattle.bench_rules.specs.declared.condition.Condition.{Condition}
 use Rattle.bench_rules.specs.declared.test.Test.{Test}
-use Rattle.bench_rules.specs.Conditions.{AreRising, chosen, chosen_among, judged, meets, range_of, tests_of}
+use Rattle.bench_rules.specs.Conditions.{AreRising, asked_tests, chosen, chosen_among, judged, lacks_values, meets, range_of, tests_of}
 use Rattle.bench_rules.specs.Looks.{choosing_looks, judging_looks, looks_at, range_looks, range_looks_of}
 use Rattle.bench_rules.specs.ManyTraces.{each_of}
 use Rattle.bench_rules.specs.RecordNumbers.{tells_tests}
@@ -122,12 +122,22 @@ go_on v tests a b k x us vs below e kept far =
     far ∙ ap (λ o. chosen_behind us o) (next v tests a b k x below e) ∙ one_more us (a + k) x (left v tests a b (k + 1)) ∙ ap (λ ws. chosen_behind ws (left v tests a b (k + 1))) (sym kept)
 
 -- a trace lacks a place
-pub lacks : (v : Volume) (tests : List Test) (a b k : ℕ) (us : List ℕ) → k < b + 1 - a → None ≡ meets v.head (trace_at v (a + k)) tests
-    → AreChosen v tests a b k us → chosen_among v tests (range_with_len a (b + 1 - a)) ≡ None
-lacks v tests a b k us below e far =
-    far ∙ ap (λ o. chosen_behind us o)
-    (ap (λ ps. each_of (judged_at v tests) ps) (next_position a k (b + 1 - a) below)
-    ∙ each_stops (judged_at v tests) (a + k) (range_with_len (a + (k + 1)) (b + 1 - a - (k + 1))) (ap (λ o. option_map (λ b. (a + k, b)) o) (sym e)))
+stops-behind : {X : Type 0} (o : Option X) (rest : Option (List X)) → rest ≡ None → option_and_then (λ y. option_map (λ ys. y ∷ ys) rest) o ≡ None
+stops-behind None rest e = refl
+stops-behind (Some x) rest e = ap (λ r. option_map (λ ys. x ∷ ys) r) e
+
+lacks-at : (v : Volume) (tests : List Test) (a n k : ℕ) → k < n → meets v.head (trace_at v (a + k)) tests ≡ None → each_of (judged_at v tests) (range_with_len a n) ≡ None
+lacks-at v tests a zero k below e = absurd (omega (arith, below))
+lacks-at v tests a (suc n) zero below e =
+    let here : a + 0 ≡ a = omega arith in
+    each_stops (judged_at v tests) a (range_with_len (a + 1) n) (ap (λ o. option_map (λ b. (a, b)) o) (ap (λ (p : ℕ). meets v.head (trace_at v p) tests) (sym here) ∙ e))
+lacks-at v tests a (suc n) (suc k) below e =
+    let there : a + 1 + k ≡ a + suc k = omega arith in
+    stops-behind (judged_at v tests a) (each_of (judged_at v tests) (range_with_len (a + 1) n))
+    (lacks-at v tests (a + 1) n k (omega (arith, below)) (ap (λ (p : ℕ). meets v.head (trace_at v p) tests) there ∙ e))
+
+pub lacks : (v : Volume) (tests : List Test) (a b k : ℕ) → k < b + 1 - a → meets v.head (trace_at v (a + k)) tests ≡ None → chosen_among v tests (range_with_len a (b + 1 - a)) ≡ None
+lacks v tests a b k below e = ap (λ o. option_map picked o) (lacks-at v tests a (b + 1 - a) k below e)
 
 -- no trace is left
 pub none_left : (v : Volume) (tests : List Test) (a b k : ℕ) (us : List ℕ) → b + 1 - a ≤ k → AreChosen v tests a b k us → chosen_among v tests (range_with_len a (b + 1 - a)) ≡ Some us
@@ -153,12 +163,17 @@ all_rising a b k us end up = rising-wider a (a + k - 1) b us end up
 
 -- ---- all conditions of one choice
 
+-- they are asked, where samples have the values that they ask for
+pub asked_there : (v : Volume) (pairs : Pairs) (conditions : List Condition) (tests : List Test) (lacks : Bool) → lacks ≡ lacks_values v.head.format tests → lacks ≡ false → tests_of pairs conditions ≡ Some tests
+    → asked_tests v.head.format pairs conditions ≡ Some tests
+asked_there v pairs conditions tests lacks is none e = rw (e, sym is, none) refl
+
 module _ (v : Volume) (pairs : Pairs) (c : Chosen) (conditions : List Condition) (tests : List Test) (r : ℕ × ℕ)
-    (same : conditions ≡ c.conditions) (e : tests_of pairs conditions ≡ Some tests) (there : c.traces ≡ Some r) where
+    (same : conditions ≡ c.conditions) (e : asked_tests v.head.format pairs conditions ≡ Some tests) (there : c.traces ≡ Some r) where
   -- those of the range are chosen
   pub chosen_there : chosen v pairs c ≡ chosen_among v tests (range_with_len r.0 (r.1 + 1 - r.0))
   chosen_there =
-      ap (λ (o : Option (List Test)). option_and_then (λ ts. chosen_among v ts (range_of c.traces)) o) (ap (λ (cs : List Condition). tests_of pairs cs) (sym same) ∙ e)
+      ap (λ (o : Option (List Test)). option_and_then (λ ts. chosen_among v ts (range_of c.traces)) o) (ap (λ (cs : List Condition). asked_tests v.head.format pairs cs) (sym same) ∙ e)
       ∙ ap (λ (range : Option (ℕ × ℕ)). chosen_among v tests (range_of range)) there
 
   pub chosen_all : (ps : List ℕ) → length tests ≡ 0 → ps ≡ range_with_len r.0 (r.1 + 1 - r.0) → chosen v pairs c ≡ Some ps
@@ -169,7 +184,7 @@ module _ (v : Volume) (pairs : Pairs) (c : Chosen) (conditions : List Condition)
   -- so many are looked at
   pub looked_there : range_refusal v (Some r) ≡ None → choosing_looks v pairs c ≡ (if tells_tests pairs tests then 0 else r.1 + 1 - r.0)
   looked_there free =
-      ap (λ (o : Option (List Test)). judging_looks pairs o (range_looks_of v c.traces)) (ap (λ (cs : List Condition). tests_of pairs cs) (sym same) ∙ e)
+      ap (λ (o : Option (List Test)). judging_looks pairs o (range_looks_of v c.traces)) (ap (λ (cs : List Condition). asked_tests v.head.format pairs cs) (sym same) ∙ e)
       ∙ ap (λ (n : ℕ). if tells_tests pairs tests then 0 else n) (ap (λ (range : Option (ℕ × ℕ)). range_looks_of v range) there ∙ range_looks_there v r free)
 
   -- one at least, where the records do not tell all
@@ -180,10 +195,10 @@ module _ (v : Volume) (pairs : Pairs) (c : Chosen) (conditions : List Condition)
       omega (arith, looks, t.high)
 
   -- and no more than the range has
-  pub few_there : (ps : List ℕ) → range_refusal v (Some r) ≡ None → AreRising r.0 r.1 ps → length ps ≤ looks_at (tests_of pairs c.conditions) (range_looks_of v c.traces)
+  pub few_there : (ps : List ℕ) → range_refusal v (Some r) ≡ None → AreRising r.0 r.1 ps → length ps ≤ looks_at (asked_tests v.head.format pairs c.conditions) (range_looks_of v c.traces)
   few_there ps free up =
-      let looks : looks_at (tests_of pairs c.conditions) (range_looks_of v c.traces) ≡ r.1 + 1 - r.0 =
-      ap (λ (o : Option (List Test)). looks_at o (range_looks_of v c.traces)) (ap (λ (cs : List Condition). tests_of pairs cs) (sym same) ∙ e)
+      let looks : looks_at (asked_tests v.head.format pairs c.conditions) (range_looks_of v c.traces) ≡ r.1 + 1 - r.0 =
+      ap (λ (o : Option (List Test)). looks_at o (range_looks_of v c.traces)) (ap (λ (cs : List Condition). asked_tests v.head.format pairs cs) (sym same) ∙ e)
       ∙ ap (λ (range : Option (ℕ × ℕ)). range_looks_of v range) there ∙ range_looks_there v r free in
       subst (λ (n : ℕ). length ps ≤ n) (sym looks) (few_within v r ps free up)
 

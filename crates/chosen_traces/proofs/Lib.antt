@@ -2,5 +2,6 @@ pub mod GatheredLemmas
 pub mod FrontLemmas
 pub mod ComputedFrontLemmas
 mod ChoosingLemmas
+mod ChoosingFaultLemmas
 mod RecordLemmas
 mod ToldLemmas

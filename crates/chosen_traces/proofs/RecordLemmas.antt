@@ -16,7 +16,7 @@ use Rattle.frame_cut.specs.Frames.{extensions_of, header_bytes}
 use Rattle.frame_cut.specs.Traces.{count_of, trace_at}
 use Rattle.frame_cut.specs.Volume.{Volume}
 use Rattle.num_order.specs.Number.{num}
-use Rattle.trace_view.specs.Values.{has_place, is_in_header, value_at, value_of}
+use Rattle.trace_view.specs.Values.{has_floats, has_place, is_in_header, value_at, value_of}
 use Rattle.trace_record.specs.declared.packed_record.PackedRecord.{PackedRecord}
 use Rattle.trace_record.specs.declared.record.Record.{Record}
 use Rattle.trace_record.specs.Facts.{Facts, facts_of}
@@ -24,7 +24,8 @@ use Rattle.trace_record.specs.OfTrace.{bound_value, record_of}
 use Rattle.trace_record.specs.Packed.{record_in}
 use Rattle.edit_overlay.specs.CountedVolume.{CountedVolume}
 use Rattle.bench_rules.specs.declared.test.Test.{Test}
-use Rattle.bench_rules.specs.Conditions.{compares, meets, test_in}
+use Rattle.bench_rules.specs.Conditions.{meets, test_in}
+use Rattle.bench_rules.specs.SampleFacts.{amplitudes_at}
 use Rattle.bench_rules.specs.Computed.{term_in}
 use Rattle.bench_rules.specs.RecordNumbers.{is_one_number}
 use Rattle.bench_rules.specs.Live.{AreRecordsOf}
@@ -32,7 +33,7 @@ use Rattle.bench_rules.specs.ManyTraces.{each_of}
 use Rattle.bench_rules.specs.State.{State}
 use Rattle.bench_rules.proofs.TestLemmas.{goes_on, said}
 use Rattle.chosen_traces.specs.declared.record_tests.RecordTest.{RecordTest}
-use Rattle.chosen_traces.specs.RecordTests.{hold, holds, number_of, AreTestsOf, HasRecords, IsTermOf, IsTestOf}
+use Rattle.chosen_traces.specs.RecordTests.{amplitudes_beside, hold, holds, AreTestsOf, HasRecords, IsSideOf, IsTestOf}
 
 -- ---- one number
 
@@ -94,14 +95,12 @@ sequence_there h t place e = number-there h t place (signed_at 5 4) e
 
 -- ---- conditions
 
-pub one_test : (fields : Pairs) (test : Test) (told : RecordTest) → told.comparison ≡ test.comparison → IsTermOf fields test.left told.left → IsTermOf fields test.right told.right → IsTestOf fields test told
-one_test fields test told same left right = λ h t.
-    let f = record_of h fields t in
-    rw (left h t, right h t, same) refl
+pub one_test : (fields : Pairs) (test : Test) (told : RecordTest) → told.comparison ≡ test.comparison → IsSideOf fields test.left told.left → IsSideOf fields test.right told.right → IsTestOf fields test told
+one_test fields test told same left right = λ h t. rw (left h t, right h t, same) refl
 
 -- one more
-pub hold-more : (f : Facts) (told made : List RecordTest) (one : RecordTest) → made ≡ told ++ one ∷ [] → hold f made ≡ (hold f told && holds f one)
-hold-more f told made one pushed = ap (λ xs. hold f xs) pushed ∙ list_all-append (holds f) told (one ∷ []) ∙ ap (λ b. hold f told && b) (and-all (holds f one))
+pub hold-more : (floats : Bool) (f : Facts) (told made : List RecordTest) (one : RecordTest) → made ≡ told ++ one ∷ [] → hold floats f made ≡ (hold floats f told && holds floats f one)
+hold-more floats f told made one pushed = ap (λ xs. hold floats f xs) pushed ∙ list_all-append (holds floats f) told (one ∷ []) ∙ ap (λ b. hold floats f told && b) (and-all (holds floats f one))
   where
     and-all : (b : Bool) → (b && true) ≡ b
     and-all true = refl
@@ -109,11 +108,11 @@ hold-more f told made one pushed = ap (λ xs. hold f xs) pushed ∙ list_all-app
 
 -- the conditions so far, with one more
 pub tests_more : (fields : Pairs) (tests : List Test) (told made : List RecordTest) (i : ℕ) (d : Test) (one : RecordTest) → i < length tests → IsTestOf fields (get_or tests i d) one → made ≡ told ++ one ∷ []
-    → ((h : Head) (t : List ℕ) → meets h t tests ≡ said (hold (record_of h fields t) told) (each_of (test_in h t) (drop i tests)))
-    → (h : Head) (t : List ℕ) → meets h t tests ≡ said (hold (record_of h fields t) made) (each_of (test_in h t) (drop (i + 1) tests))
+    → ((h : Head) (t : List ℕ) → meets h t tests ≡ said (hold (has_floats h) (record_of h fields t) told) (each_of (test_in h t) (drop i tests)))
+    → (h : Head) (t : List ℕ) → meets h t tests ≡ said (hold (has_floats h) (record_of h fields t) made) (each_of (test_in h t) (drop (i + 1) tests))
 tests_more fields tests told made i d one below is pushed far = λ h t.
-    goes_on h t tests i d (hold (record_of h fields t) told) (holds (record_of h fields t) one) below (sym (is h t)) (far h t)
-    ∙ ap (λ (b : Bool). said b (each_of (test_in h t) (drop (i + 1) tests))) (sym (hold-more (record_of h fields t) told made one pushed))
+    goes_on (test_in h t) tests i d (hold (has_floats h) (record_of h fields t) told) (holds (has_floats h) (record_of h fields t) one) (meets h t tests) below (sym (is h t)) (far h t)
+    ∙ ap (λ (b : Bool). said b (each_of (test_in h t) (drop (i + 1) tests))) (sym (hold-more (has_floats h) (record_of h fields t) told made one pushed))
 
 -- each item so far is told
 pub told_more : {X : Type 0} (p : X → Bool) (xs : List X) (i : ℕ) (d : X) → i < length xs → p (get_or xs i d) ≡ true → list_all p xs ≡ list_all p (drop i xs) → list_all p xs ≡ list_all p (drop (i + 1) xs)
@@ -171,23 +170,35 @@ some-is : {X : Type 0} (x y : X) → (let o : Option X = Some x in o) ≡ Some y
 some-is x y e = cc
 
 module _ (o : CountedVolume PackedRecord) (fields : Pairs) (beside : HasRecords o fields) where
-  -- it tells whether the trace meets the conditions
-  pub met : (conditions : List Test) (told : List RecordTest) (k p : ℕ) (r : Record) → AreTestsOf fields conditions told → slice_get (map record_in o.payloads) k ≡ Some r → p ≡ k + 1
-      → Some (hold (facts_of r) told) ≡ meets o.volume.head (trace_at o.volume p) conditions
-  met conditions told k p r tests at next =
+  -- the trace of a record
+  record IsBeside (k p : ℕ) (r : Record) : Type 0 where
+    bytes : List ℕ
+    record_is : record_of o.volume.head fields bytes ≡ facts_of r
+    trace : trace_at o.volume p ≡ bytes
+
+  beside-it : (k p : ℕ) (r : Record) → slice_get (map record_in o.payloads) k ≡ Some r → p - 1 ≡ k → IsBeside k p r
+  beside-it k p r at from-one =
       let here : slice_get (map (record_of o.volume.head fields) o.volume.traces) k ≡ Some (facts_of r) =
       ap (λ (fs : List Facts). slice_get fs k) (sym beside) ∙ slice_get-map facts_of (map record_in o.payloads) k ∙ ap (λ (x : Option Record). option_map facts_of x) at in
       by (slice_get o.volume.traces k) refl (sym (slice_get-map (record_of o.volume.head fields) o.volume.traces k) ∙ here)
     where
-      from-one : p - 1 ≡ k
-      from-one = omega (arith, next)
-
-      by : (x : Option (List ℕ)) → slice_get o.volume.traces k ≡ x → option_map (record_of o.volume.head fields) x ≡ Some (facts_of r) → Some (hold (facts_of r) told) ≡ meets o.volume.head (trace_at o.volume p) conditions
+      by : (x : Option (List ℕ)) → slice_get o.volume.traces k ≡ x → option_map (record_of o.volume.head fields) x ≡ Some (facts_of r) → IsBeside k p r
       by None e f = absurd cc
-      by (Some t) e f =
-          let told-by : record_of o.volume.head fields t ≡ facts_of r = some-is (record_of o.volume.head fields t) (facts_of r) f in
-          let trace : trace_at o.volume p ≡ t = ap (λ (i : ℕ). get_or o.volume.traces i []) from-one ∙ get_or_from_slice_get o.volume.traces k t [] e in
-          ap (λ (g : Facts). Some (hold g told)) (sym told-by) ∙ sym (tests o.volume.head t) ∙ ap (λ (u : List ℕ). meets o.volume.head u conditions) (sym trace)
+      by (Some t) e f = record {
+        bytes = t;
+        record_is = some-is (record_of o.volume.head fields t) (facts_of r) f;
+        trace = ap (λ (i : ℕ). get_or o.volume.traces i []) from-one ∙ get_or_from_slice_get o.volume.traces k t [] e;
+      }
+
+  -- it tells whether the trace meets the conditions
+  pub met : (conditions : List Test) (told : List RecordTest) (floats : Bool) (k p : ℕ) (r : Record) → floats ≡ has_floats o.volume.head → AreTestsOf fields conditions told → slice_get (map record_in o.payloads) k ≡ Some r → p ≡ k + 1
+      → Some (hold floats (facts_of r) told) ≡ meets o.volume.head (trace_at o.volume p) conditions
+  met conditions told floats k p r same tests at next =
+      let one = beside-it k p r at (omega (arith, next)) in
+      ap (λ (g : Facts). Some (hold floats g told)) (sym one.record_is)
+      ∙ ap (λ (b : Bool). Some (hold b (record_of o.volume.head fields one.bytes) told)) same
+      ∙ sym (tests o.volume.head one.bytes)
+      ∙ ap (λ (u : List ℕ). meets o.volume.head u conditions) (sym one.trace)
 
   -- each trace has one
   pub none_lacks : (k : ℕ) → slice_get (map record_in o.payloads) k ≡ None → count_of o.volume ≤ k
@@ -200,6 +211,18 @@ module _ (o : CountedVolume PackedRecord) (fields : Pairs) (beside : HasRecords 
       past [] k e = omega arith
       past (r ∷ rs) zero e = absurd cc
       past (r ∷ rs) (suc k) e = omega (arith, past rs k e)
+
+  -- and tells its amplitudes
+  pub amplitudes_there : (p : ℕ) → p - 1 < count_of o.volume → amplitudes_beside o.payloads p ≡ amplitudes_at o.volume.head (trace_at o.volume p)
+  amplitudes_there p below = by (slice_get (map record_in o.payloads) (p - 1)) refl
+    where
+      by : (x : Option Record) → slice_get (map record_in o.payloads) (p - 1) ≡ x → amplitudes_beside o.payloads p ≡ amplitudes_at o.volume.head (trace_at o.volume p)
+      by None e = let past = none_lacks (p - 1) e in absurd (omega (arith, past, below))
+      by (Some r) e =
+          let one = beside-it (p - 1) p r e refl in
+          ap (λ (x : Option Record). option_and_then (λ r. r.amplitudes) x) e
+          ∙ ap (λ (f : Facts). f.amplitudes) (sym one.record_is)
+          ∙ ap (λ (u : List ℕ). amplitudes_at o.volume.head u) (sym one.trace)
 
 -- they do where they are those of the state
 pub records_beside : (s : State) (o : CountedVolume PackedRecord) (fields : Pairs) → s.volume ≡ o.volume → s.fields ≡ fields → AreRecordsOf s (map record_in o.payloads) → HasRecords o fields

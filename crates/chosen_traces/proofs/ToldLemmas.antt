@@ -1,10 +1,10 @@
 -- What is told of the traces that are chosen.
-use Rattle.std.proofs.Common.{◌≡◌, ◌⊎◌, ℕ, ◌+◌, ◌<◌, ◌≤◌, Bool, true, not, List, length, Option, Some, None, inl, inr, refl, sym, ap, ap₂, subst, ◌∙◌, arith}
+use Rattle.std.proofs.Common.{◌≡◌, ◌⊎◌, ℕ, ◌+◌, ◌<◌, ◌≤◌, Bool, true, false, not, List, length, Option, Some, None, inl, inr, refl, sym, ap, ap₂, subst, ◌∙◌, arith}
 use Rattle.std.specs.Prelude.{Ok, Err, IfOk, IfErr, option_and_then, if◌then◌else◌}
 use Rattle.field_map.specs.Pairs.{Pairs}
 use Rattle.frame_cut.specs.Volume.{Volume}
 use Rattle.bench_rules.specs.declared.ask_fault.AskFault.{AskFault}
-use Rattle.bench_rules.specs.declared.ask_fault.AskFault.TheVariants.{NoField, NoPlace, OutOfMemory}
+use Rattle.bench_rules.specs.declared.ask_fault.AskFault.TheVariants.{NoField, NoPlace, NoValues, OutOfMemory}
 use Rattle.bench_rules.specs.declared.chosen.Chosen.{Chosen}
 use Rattle.bench_rules.specs.declared.chosen_query.ChosenQuery.{ChosenQuery}
 use Rattle.bench_rules.specs.declared.chosen_query.ChosenQuery.TheVariants as about
@@ -12,7 +12,7 @@ use Rattle.bench_rules.specs.declared.query.Query.TheVariants.{OfChosen}
 use Rattle.bench_rules.specs.declared.test.Test.{Test}
 use Rattle.bench_rules.specs.Answer.{answer, IsReply, Reply}
 use Rattle.bench_rules.specs.ChosenQueries.{answer_of_chosen, answer_of_each, answer_under, asks_for_fields, chosen_answer, of_range}
-use Rattle.bench_rules.specs.Conditions.{chosen, chosen_among, range_of, tests_of}
+use Rattle.bench_rules.specs.Conditions.{chosen, chosen_among, lacks_values, range_of, tests_of}
 use Rattle.bench_rules.specs.Looks.{asking_looks, choosing_looks, chosen_query_looks, looks_at_chosen, most_chosen, most_query_looks}
 use Rattle.bench_rules.specs.RangeFaults.{or_fault}
 use Rattle.bench_rules.specs.RangeRefusals.{range_refusal}
@@ -40,16 +40,25 @@ module _ (v : Volume) (pairs : Pairs) (c : Chosen) (q : ChosenQuery) where
   -- a fault of the choice is the fault of the reply
   under-fault : (o : Option (List Test)) (fault : AskFault) → fault_under v c.traces o ≡ Some fault → answer_under v pairs c.traces q o ≡ Err fault
   under-fault None fault e = let is : NoField ≡ fault = cc in ap (λ f. Err f) is
-  under-fault (Some tests) fault e = by (chosen_among v tests (range_of c.traces)) e
+  under-fault (Some tests) fault e = by (lacks_values v.head.format tests) (chosen_among v tests (range_of c.traces)) e
     where
-      by : (o : Option (List ℕ)) → fault_without o ≡ Some fault → answer_of_chosen v pairs q o ≡ Err fault
-      by None f = let is : NoPlace ≡ fault = cc in ap (λ g. Err g) is
-      by (Some ps) f = absurd cc
+      by : (lacks : Bool) (o : Option (List ℕ)) → (if lacks then Some NoValues else fault_without o) ≡ Some fault → (if lacks then Err NoValues else answer_of_chosen v pairs q o) ≡ Err fault
+      by true o f = let is : NoValues ≡ fault = cc in ap (λ g. Err g) is
+      by false None f = let is : NoPlace ≡ fault = cc in ap (λ g. Err g) is
+      by false (Some ps) f = absurd cc
 
   -- and where traces are chosen, it is what is told of these
-  under-chosen : (o : Option (List Test)) (ps : List ℕ) → option_and_then (λ tests. chosen_among v tests (range_of c.traces)) o ≡ Some ps → answer_under v pairs c.traces q o ≡ answer_of_each v pairs q ps
+  abbrev among : List Test → Option (List ℕ)
+  among tests = chosen_among v tests (range_of c.traces)
+
+  under-chosen : (o : Option (List Test)) (ps : List ℕ) → option_and_then among (option_and_then (λ tests. if lacks_values v.head.format tests then None else Some tests) o) ≡ Some ps
+      → answer_under v pairs c.traces q o ≡ answer_of_each v pairs q ps
   under-chosen None ps e = absurd cc
-  under-chosen (Some tests) ps e = ap (λ o. answer_of_chosen v pairs q o) e
+  under-chosen (Some tests) ps e = by (lacks_values v.head.format tests) e
+    where
+      by : (lacks : Bool) → option_and_then among (if lacks then None else Some tests) ≡ Some ps → (if lacks then Err NoValues else answer_of_chosen v pairs q (among tests)) ≡ answer_of_each v pairs q ps
+      by true f = absurd cc
+      by false f = ap (λ o. answer_of_chosen v pairs q o) f
 
   with-fields : asks_for_fields pairs q ≡ true → after_range v pairs c q ≡ answer_under v pairs c.traces q (tests_of pairs c.conditions)
   with-fields has = rw has refl

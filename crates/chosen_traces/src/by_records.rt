@@ -10,6 +10,7 @@ ghost use Rattle.chosen_traces.specs.RecordTests.{AreTestsOf, HasRecords};
 
 use crate::choosing::keep;
 use crate::record_tests::{RecordTest, hold};
+use bench_rules::has_float_samples;
 use edit_overlay::Overlay;
 use record_table::{Records, RecordsIter};
 use std::alloc::{AllocError, Global};
@@ -34,6 +35,7 @@ pub(crate) fn chosen_by_records(
         overlay.now.volume conditions (range_with_len a (b + 1 - a)) ≡ Some traces.items) }
     ensures rising { IfOk result (λ traces. AreRising a b traces.items) }
 {
+    let floats = has_float_samples(overlay);
     let records = Records::new(overlay.payloads());
     let in_order = (a - 1) / FOUND <= b - a;
     let mut left = records_from(&records, a - 1, in_order);
@@ -43,7 +45,7 @@ pub(crate) fn chosen_by_records(
         let Some(record) = record_at(&records, &mut left, place, in_order) else {
             return Ok(traces);
         };
-        keep(&mut traces, a + k, hold(&record, tests))?;
+        keep(&mut traces, a + k, hold(floats, &record, tests))?;
     }
     Ok(traces)
 }

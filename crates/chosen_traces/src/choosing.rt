@@ -1,29 +1,32 @@
 // The list of the traces that conditions choose.
-ghost use Rattle.std.specs.Prelude.{◌≡◌, ◌⊎◌, ◌+◌, ◌-◌, ◌<◌, ◌≤◌, [], ◌∷◌, ◌++◌, length, None, Some, IsTrue, IfOk, IfErr, OnOk, false, if◌then◌else◌};
+ghost use Rattle.std.specs.Prelude.{ℕ, Option, ◌≡◌, ◌⊎◌, ◌+◌, ◌-◌, ◌<◌, ◌≤◌, [], ◌∷◌, ◌++◌, length, None, Some, IsTrue, IfOk, IfErr, OnOk, false, if◌then◌else◌};
 ghost use Rattle.std.specs.List.{range_with_len};
+ghost use Rattle.field_map.specs.Pairs.{Pairs};
 ghost use Rattle.frame_cut.specs.Traces.{count_of, is_trace, trace_at};
 ghost use Rattle.edit_overlay.specs.CountedVolume.{IsSeen};
 ghost use Rattle.bench_rules.specs.declared.ask_fault.AskFault.TheVariants.{NoField as no_field, NoPlace as no_place, OutOfMemory as no_memory};
-ghost use Rattle.bench_rules.specs.Conditions.{chosen as chosen_traces, chosen_among, meets, tests_of as tests_of_conditions, AreRising};
+ghost use Rattle.bench_rules.specs.Conditions.{asked_tests as asked_tests_of, chosen as chosen_traces, chosen_among, meets_by, tests_of as tests_of_conditions, AreRising};
 ghost use Rattle.bench_rules.specs.Looks.{choosing_looks, most_chosen};
 ghost use Rattle.bench_rules.specs.RangeRefusals.{range_refusal};
 ghost use Rattle.bench_rules.specs.ReadFaults.{IsReadFault};
 ghost use Rattle.bench_rules.specs.RecordNumbers.{tells_tests};
-ghost use Rattle.chosen_traces.specs.Choosing.{choosing_fault};
-ghost use Rattle.chosen_traces.specs.RecordTests.{HasRecords};
+ghost use Rattle.chosen_traces.specs.Choosing.{choosing_fault, fault_under};
+ghost use Rattle.chosen_traces.specs.RecordTests.{amplitudes_beside, HasRecords};
 
 use crate::by_records::chosen_by_records;
 use crate::record_tests::record_tests;
-use bench_rules::{AskFault, Chosen, Condition, Test, meets_all, test_of};
+use bench_rules::{AskFault, Chosen, Condition, Test, lacks_values, meets_all, test_of};
 use edit_overlay::{Overlay, ReadFault};
 use field_map::FieldMap;
+use record_table::Records;
 use std::alloc::{AllocError, Global};
-use trace_record::PackedRecord;
+use trace_record::{Amplitudes, PackedRecord};
 
 /// The traces of the range that meet all conditions, in order. Looks once at each trace of the
 /// range, where the fields of the conditions have places, of which the records do not tell one.
-/// Takes memory. Refused: E02 where a field has no place, E03 where a trace lacks one; E11 may come
-/// in the place of either. On disk also where a trace could not be read (E14, E15).
+/// Takes memory. Refused: E02 where a field has no place, E12 where samples have no values that are
+/// asked for, E03 where a trace lacks a place; E11 may come in the place of any of these. On disk
+/// also where a trace could not be read (E14, E15).
 pub fn choose(
     alloc: Global,
     overlay: &mut Overlay<PackedRecord>,
@@ -46,7 +49,7 @@ pub fn choose(
     ensures seen { IsSeen overlay.old overlay.new
         (choosing_looks overlay.old.volume map.now.pairs chosen.now) }
 {
-    let tests = tests_of(alloc, map, chosen.conditions.as_slice())?;
+    let tests = asked_tests(alloc, overlay, map, chosen.conditions.as_slice())?;
     let Some((first, last)) = chosen.traces else {
         return Ok(Vec::new(alloc));
     };
@@ -85,6 +88,30 @@ fn chosen_of(
         Some(told) => Ok(chosen_by_records(alloc, overlay, a, b, told.as_slice())?),
         None => chosen_from(alloc, overlay, a, b, tests),
     }
+}
+
+// The conditions with the places of their fields: E02 where one has none, E12 where samples have no
+// values that are asked for.
+fn asked_tests(
+    alloc: Global,
+    overlay: &Overlay<PackedRecord>,
+    map: &FieldMap,
+    conditions: &[Condition],
+) -> Result<Vec<Test>, AskFault>
+    ensures ok { IfOk result (λ tests. asked_tests_of overlay.now.volume.head.format map.now.pairs
+        conditions.now ≡ Some tests.items) }
+    ensures err { IfErr result (λ fault. (fault ≡ no_memory) ⊎ ((range : Option (ℕ × ℕ)) →
+        fault_under overlay.now.volume range (tests_of_conditions map.now.pairs conditions.now)
+        ≡ Some fault)) }
+{
+    let tests = match tests_of(alloc, map, conditions) {
+        Ok(tests) => tests,
+        Err(fault) => return Err(fault),
+    };
+    if lacks_values(overlay.head().format, tests.as_slice()) {
+        return Err(AskFault::NoValues);
+    }
+    Ok(tests)
 }
 
 // The conditions with the places of their fields: E02 where one has none.
@@ -129,8 +156,9 @@ fn chosen_from(
     requires first { 1 ≤ a }
     requires range { a ≤ b }
     requires last { b ≤ count_of overlay.old.volume }
-    ensures ok { IfOk result (λ traces. IsTrue overlay.new.agreed → chosen_among
-        overlay.old.volume tests.now (range_with_len a (b + 1 - a)) ≡ Some traces.items) }
+    ensures ok { IfOk result (λ traces. (fields : Pairs) → IsTrue overlay.new.agreed →
+        HasRecords overlay.old fields → chosen_among overlay.old.volume tests.now
+        (range_with_len a (b + 1 - a)) ≡ Some traces.items) }
     ensures rising { IfOk result (λ traces. AreRising a b traces.items) }
     ensures err { IfErr result (λ fault. (fault ≡ no_memory) ⊎
         IsReadFault overlay.old.loaded.on_disk fault ⊎
@@ -159,20 +187,33 @@ pub(crate) fn keep(traces: &mut Vec<u32>, p: u32, is_chosen: bool) -> Result<(),
     Ok(())
 }
 
-// Whether trace p meets all conditions, in one look; `None` where it lacks a place.
+// Whether trace p meets all conditions, in one look at it and at the record beside it; `None` where
+// it lacks a place.
 fn judged(
     overlay: &mut Overlay<PackedRecord>,
     p: u32,
     tests: &[Test],
 ) -> Result<Option<bool>, ReadFault>
     requires { IsTrue (is_trace overlay.old.volume p) }
-    ensures told { IfOk result (λ told. IsTrue overlay.new.agreed → told ≡ meets
-        overlay.old.volume.head (trace_at overlay.old.volume p) tests.now) }
+    ensures told { IfOk result (λ told. IsTrue overlay.new.agreed → told ≡ meets_by
+        overlay.old.volume.head (trace_at overlay.old.volume p)
+        (amplitudes_beside overlay.old.payloads p) tests.now) }
     ensures seen { IsSeen overlay.old overlay.new 1 }
     ensures read { IfErr result (λ _. IsTrue overlay.old.loaded.on_disk) }
 {
+    let amplitudes = amplitudes_of(overlay, p);
     let Some(trace) = overlay.look(p)? else {
         unreachable!()
     };
-    Ok(meets_all(&trace, tests))
+    Ok(meets_all(&trace, amplitudes, tests))
+}
+
+// What the record beside trace p says of its samples.
+fn amplitudes_of(overlay: &Overlay<PackedRecord>, p: u32) -> Option<Amplitudes>
+    ensures { result ≡ amplitudes_beside overlay.now.payloads p }
+{
+    match Records::new(overlay.payloads()).get((p as usize).saturating_sub(1)) {
+        Some(record) => record.amplitudes,
+        None => None,
+    }
 }

@@ -1,11 +1,12 @@
-// Conditions whose numbers the records beside the traces tell.
+// Conditions whose sides the records beside the traces tell.
 ghost use Rattle.std.specs.Prelude.{◌≡◌, is_some, IfOk, IfSome};
 ghost use Rattle.trace_record.specs.Facts.{facts_of};
-ghost use Rattle.bench_rules.specs.RecordNumbers.{is_one_number as is_one_number_of, tells_place, tells_term, tells_test, tells_tests};
+ghost use Rattle.bench_rules.specs.RecordNumbers.{is_one_number as is_one_number_of, tells_place, tells_side, tells_term, tells_test, tells_tests};
 ghost use Rattle.bench_rules.specs.declared.term.Term.TheVariants as terms;
-ghost use Rattle.chosen_traces.specs.RecordTests.{hold as hold_all, number_of as number_in, AreTestsOf, IsTermOf, IsTestOf};
+ghost use Rattle.chosen_traces.specs.RecordTests.{hold as hold_all, number_of as number_in, value_in, AreTestsOf, IsSideOf, IsTermOf, IsTestOf};
 
-use bench_rules::{Comparison, Term, Test, compares};
+use bench_rules::{Comparison, SampleFact, SideValue, Term, Test, TestSide, compares, fact_value};
+use exact_amounts::Amount;
 use field_map::{FieldMap, Place};
 use num_order::Kind;
 use std::alloc::{AllocError, Global};
@@ -21,7 +22,7 @@ const SEQUENCE: Place = Place {
     },
 };
 
-// A side of a condition: a number, or one of those in a record.
+// A number, or one of those in a record.
 #[derive(Clone, Copy)]
 pub(crate) enum RecordTerm {
     Number(i128),
@@ -31,12 +32,20 @@ pub(crate) enum RecordTerm {
     Sequence,
 }
 
-// A condition on the numbers of a record.
+// A side of a condition, told by a record.
+#[derive(Clone, Copy)]
+pub(crate) enum RecordSide {
+    Term(RecordTerm),
+    Decimal(Amount),
+    Fact(SampleFact),
+}
+
+// A condition on what a record tells.
 #[derive(Clone, Copy)]
 pub(crate) struct RecordTest {
-    left: RecordTerm,
+    left: RecordSide,
     comparison: Comparison,
-    right: RecordTerm,
+    right: RecordSide,
 }
 
 // The same conditions on the record of a trace; `None` where it does not tell a side of one.
@@ -64,8 +73,8 @@ fn record_test(map: &FieldMap, test: Test) -> Option<RecordTest>
     ensures exact { is_some result ≡ tells_test map.now.pairs test }
     ensures test { IfSome result (λ told. IsTestOf map.now.pairs test told) }
 {
-    let left = record_term(map, test.left)?;
-    let right = record_term(map, test.right)?;
+    let left = record_side(map, test.left)?;
+    let right = record_side(map, test.right)?;
     Some(RecordTest {
         left,
         comparison: test.comparison,
@@ -74,6 +83,18 @@ fn record_test(map: &FieldMap, test: Test) -> Option<RecordTest>
 }
 
 // The same side in the record of a trace; `None` where it does not tell that.
+fn record_side(map: &FieldMap, side: TestSide) -> Option<RecordSide>
+    ensures exact { is_some result ≡ tells_side map.now.pairs side }
+    ensures side { IfSome result (λ told. IsSideOf map.now.pairs side told) }
+{
+    match side {
+        TestSide::Term(term) => Some(RecordSide::Term(record_term(map, term)?)),
+        TestSide::Decimal(amount) => Some(RecordSide::Decimal(amount)),
+        TestSide::Fact(fact) => Some(RecordSide::Fact(fact)),
+    }
+}
+
+// The same number in the record of a trace; `None` where it does not tell that.
 fn record_term(map: &FieldMap, term: Term) -> Option<RecordTerm>
     ensures exact { is_some result ≡ tells_term map.now.pairs term }
     ensures term { IfSome result (λ told. IsTermOf map.now.pairs term told) }
@@ -118,18 +139,29 @@ fn is_one_number(place: Place, other: Place) -> bool
         && other.kind.signed
 }
 
-// Whether the record meets all conditions.
-pub(crate) fn hold(record: &Record, tests: &[RecordTest]) -> bool
-    ensures { result ≡ hold_all (facts_of record.now) tests.now }
+// Whether the record meets all conditions; whether samples are floats comes first.
+pub(crate) fn hold(floats: bool, record: &Record, tests: &[RecordTest]) -> bool
+    ensures { result ≡ hold_all floats (facts_of record.now) tests.now }
 {
     for test in tests {
-        let left = number_of(record, test.left);
-        let right = number_of(record, test.right);
+        let left = value_of(floats, record, test.left);
+        let right = value_of(floats, record, test.right);
         if !compares(test.comparison, left, right) {
             return false;
         }
     }
     true
+}
+
+// What the side says of the trace of the record.
+fn value_of(floats: bool, record: &Record, side: RecordSide) -> SideValue
+    ensures { result ≡ value_in floats (facts_of record.now) side }
+{
+    match side {
+        RecordSide::Term(term) => SideValue::Whole(number_of(record, term)),
+        RecordSide::Decimal(amount) => SideValue::Decimal(amount),
+        RecordSide::Fact(fact) => fact_value(floats, record.amplitudes, record.number, fact),
+    }
 }
 
 // The number in the record.

@@ -16,7 +16,7 @@ use Rattle.bench_rules.specs.declared.refusal.Refusal.{Refusal}
 use Rattle.bench_rules.specs.declared.refusal.Refusal.TheVariants as refusals
 use Rattle.bench_rules.specs.declared.test.Test.{Test}
 use Rattle.bench_rules.specs.ChosenEdits.{has_fields, refusal_of_chosen, refusal_under, without_each}
-use Rattle.bench_rules.specs.Conditions.{AreRising, chosen, chosen_among, range_of, tests_of}
+use Rattle.bench_rules.specs.Conditions.{AreRising, chosen, chosen_among, lacks_values, range_of, tests_of}
 use Rattle.bench_rules.specs.Looks.{choosing_looks, each_looks, edit_looks, is_told, most_chosen, put_looks}
 use Rattle.bench_rules.specs.Places.{place_in_trace}
 use Rattle.bench_rules.specs.RangeFaults.{refusal_for}
@@ -69,11 +69,13 @@ module _ (s : State) (c : Chosen) (edit : ChosenEdit) (free : range_refusal s.vo
   -- the fault of the choice is the refusal of the edit
   under-fault : (o : Option (List Test)) (fault : AskFault) → fault_under s.volume c.traces o ≡ Some fault → refusal_under s.volume s.fields c.traces edit o ≡ Some (refusal_for fault)
   under-fault None fault e = let is : asks.NoField ≡ fault = cc in ap (λ (f : AskFault). let o : Option Refusal = Some (refusal_for f) in o) is
-  under-fault (Some tests) fault e = by (chosen_among s.volume tests (range_of c.traces)) e
+  under-fault (Some tests) fault e = by (lacks_values s.volume.head.format tests) (chosen_among s.volume tests (range_of c.traces)) e
     where
-      by : (o : Option (List ℕ)) → fault_without o ≡ Some fault → refusal_of_chosen s.volume s.fields edit o ≡ Some (refusal_for fault)
-      by None f = let is : asks.NoPlace ≡ fault = cc in ap (λ (g : AskFault). let o : Option Refusal = Some (refusal_for g) in o) is
-      by (Some ps) f = absurd cc
+      by : (lacks : Bool) (o : Option (List ℕ)) → (if lacks then Some asks.NoValues else fault_without o) ≡ Some fault
+          → (if lacks then Some refusals.NoValues else refusal_of_chosen s.volume s.fields edit o) ≡ Some (refusal_for fault)
+      by true o f = let is : asks.NoValues ≡ fault = cc in ap (λ (g : AskFault). let o : Option Refusal = Some (refusal_for g) in o) is
+      by false None f = let is : asks.NoPlace ≡ fault = cc in ap (λ (g : AskFault). let o : Option Refusal = Some (refusal_for g) in o) is
+      by false (Some ps) f = absurd cc
 
   first-fault : (fault : AskFault) → choosing_fault s.volume s.fields c ≡ Some fault → first_refusal s (OfChosen c edit) ≡ Some (refusal_for fault)
   first-fault fault e = rw (free, has) (under-fault (tests_of s.fields c.conditions) fault e)

@@ -12,25 +12,24 @@ ghost use Rattle.bench_rules.specs.Computed.{formula_of, term_of as term_of_oper
 ghost use Rattle.bench_rules.specs.Conditions.{AreRising};
 ghost use Rattle.bench_rules.specs.Looks.{edit_looks, each_looks};
 ghost use Rattle.bench_rules.specs.Places.{place_in_trace as place_of_field};
-ghost use Rattle.bench_rules.specs.RangeFaults.{refusal_for as refusal_for_fault};
 ghost use Rattle.bench_rules.specs.RangeRefusals.{range_refusal};
 ghost use Rattle.bench_rules.specs.Steps.{Step};
 ghost use Rattle.live_volume.specs.Chosen.{IsRefusedFor};
 ghost use Rattle.live_volume.specs.Held.{with_volume, IsReadAs};
 
 use crate::live_volume::LiveVolume;
-use bench_rules::{AskFault, Chosen, ChosenEdit, Field, Operand, Operator, Refusal, term_of};
+use bench_rules::{Chosen, ChosenEdit, Field, Operand, Operator, Refusal, term_of};
 use chosen_traces::{choose, exchanges_back, exchanges_to_front, retold};
-use many_traces::{have_places, have_terms};
+use many_traces::{have_places, have_terms, refusal_for};
 use record_table::Records;
 use std::alloc::Global;
 
 impl LiveVolume {
     /// An edit of the traces that are chosen: done whole, and then how many they were, where there
     /// is a condition; or refused, and all is as it was. Refused, in this order: E01 for the first
-    /// trace of the range, E01 for its last, E02, E03 of a condition, then what the edit refuses;
-    /// E11 may come in the place of any but E01. On disk also where a trace could not be read (E14,
-    /// E15).
+    /// trace of the range, E01 for its last, E02, E12 and E03 of a condition, then what the edit
+    /// refuses; E11 may come in the place of any but E01. On disk also where a trace could not be
+    /// read (E14, E15).
     pub fn apply_chosen(
         &mut self,
         alloc: Global,
@@ -272,18 +271,5 @@ impl LiveVolume {
         self.reports
             .remove_each(&Records::new(self.overlay.payloads()), traces);
         self.overlay.delete_each(traces);
-    }
-}
-
-// The refusal where no traces are chosen.
-fn refusal_for(fault: AskFault) -> Refusal
-    ensures { result ≡ refusal_for_fault fault }
-{
-    match fault {
-        AskFault::NoField => Refusal::NoField,
-        AskFault::NoPlace => Refusal::NoPlace,
-        AskFault::ReadFailed => Refusal::ReadFailed,
-        AskFault::FileChanged => Refusal::FileChanged,
-        _ => Refusal::OutOfMemory,
     }
 }

@@ -19,9 +19,9 @@
 //! `load` takes memory for the file's bytes, the list of its traces, the six geometry names and the
 //! records with what has counted them; `apply` for `Set`, `Map`, `MapAs`, `Patch`, `Blank`, `Copy`,
 //! `Move`, `MoveBlock`, `Resize`, `Renumber`, `Compute`, `Sort` and `OfChosen` alone; `ask` for
-//! answers that are texts or lists alone: `Line`, `Lines`, `Stanzas`, `Fields`, `Grid`, `Inlines`,
-//! `Crosslines`, `Histogram`, `Slice`, `Faults`, `Table`, `Find`, `Header`, `Extremes` and
-//! `OfChosen`.
+//! `Survey` and for answers that are texts or lists alone: `Line`, `Lines`, `Stanzas`, `Fields`,
+//! `Grid`, `Inlines`, `Crosslines`, `Histogram`, `Slice`, `Faults`, `Problems`, `Table`, `Find`,
+//! `Header`, `Extremes` and `OfChosen`.
 #![tactic(auto)]
 
 mod block_edit;

@@ -36,7 +36,7 @@ use header_answers::{extremes_answer, found_answer, header_answer};
 use live_reports::LiveReports;
 use many_traces::table_answer;
 use num_order::{fits, write};
-use problem_answers::problems_answer;
+use problem_answers::{problems_answer, survey_answer};
 use std::alloc::Global;
 use std::io::{Read, Write};
 use std::marker::Model;
@@ -487,9 +487,12 @@ impl LiveVolume {
             Query::Slice(k) => slice_answer(alloc, &mut self.overlay, *k),
             Query::Faults => faults_answer(alloc, &self.overlay, self.reports.triples()),
             Query::Problems => {
-                let reports = &self.reports;
-                problems_answer(alloc, &mut self.overlay, reports.grid(), reports.triples())
+                let grid = self.reports.grid();
+                let triples = self.reports.triples();
+                let overlay = &mut self.overlay;
+                problems_answer(alloc, overlay, &self.fields, grid, triples)
             }
+            Query::Survey => survey_answer(alloc, &self.overlay),
             Query::Lines(b) => lines_answer(alloc, &self.overlay, *b),
             Query::Table(a, b, fields) => {
                 let overlay = &mut self.overlay;

@@ -31,6 +31,6 @@ pub use crate::computed::computed_bytes;
 pub use crate::filling::sample_places;
 pub use crate::formula::have_terms;
 pub use crate::places::have_places;
-pub use crate::sort::exchanges_to_sort;
+pub use crate::sort::{exchanges_to_sort, refusal_for};
 pub use crate::swapped::{span, swapped_bytes};
 pub use crate::tables::table_among;

@@ -56,13 +56,15 @@ pub fn exchanges_to_sort(
     }
 }
 
-// The refusal where there is no table.
-fn refusal_for(fault: AskFault) -> Refusal
+/// The refusal of an edit where a query for the same numbers has this fault: a sort without its
+/// table, or an edit whose traces are not chosen. Takes no memory.
+pub fn refusal_for(fault: AskFault) -> Refusal
     ensures { result ≡ refusal_for_fault fault }
 {
     match fault {
         AskFault::NoField => Refusal::NoField,
         AskFault::NoPlace => Refusal::NoPlace,
+        AskFault::NoValues => Refusal::NoValues,
         AskFault::ReadFailed => Refusal::ReadFailed,
         AskFault::FileChanged => Refusal::FileChanged,
         _ => Refusal::OutOfMemory,

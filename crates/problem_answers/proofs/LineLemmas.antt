@@ -13,9 +13,11 @@ use Rattle.line_problems.specs.NearLines.{near_of}
 use Rattle.trace_groups.specs.Groups.{group_of}
 use Rattle.trace_groups.specs.Suspects.{far_crosslines, far_inlines}
 use Rattle.trace_groups.specs.declared.problem.TraceProblem.TheVariants.{FarCrossline, FarInline}
+use Rattle.cell_positions.specs.Jumps.{jumps_of}
+use Rattle.cell_positions.specs.Shared.{shared_of}
 use Rattle.bench_rules.specs.declared.problem_line.ProblemLine.{ProblemLine}
 use Rattle.bench_rules.specs.declared.problem_line.ProblemLine.TheVariants.{MissingCrosslines, MissingInlines}
-use Rattle.bench_rules.specs.Problems.{fault_problems, fold_lines, group_lines, header_problems, missing_lines, no_survey_lines, problems_with, sample_problems, survey_problems, value_problems}
+use Rattle.bench_rules.specs.Problems.{fault_problems, fold_lines, group_lines, header_problems, jump_lines, missing_lines, no_survey_lines, position_problems, problems_with, sample_problems, shared_lines, survey_problems, value_problems}
 
 -- what grew by one list and then by another grew by both
 then_more : (a b c x y : List ProblemLine) → b ≡ a ++ x → c ≡ b ++ y → c ≡ a ++ (x ++ y)
@@ -31,19 +33,28 @@ pub survey_lines : (fs : List Facts) (s a b c d e : List ProblemLine)
     → e ≡ s ++ survey_problems fs
 survey_lines fs s a b c d e one two three four five = then_more s d e _ _ (then_more s c d _ _ (then_more s b c _ _ (then_more s a b _ _ one two) three) four) five
 
+-- S10 and S11
+pub position_lines : (shots : Bool) (fs : List Facts) (s a b : List ProblemLine)
+    → a ≡ s ++ jump_lines (jumps_of shots fs)
+    → b ≡ a ++ shared_lines (shared_of shots fs)
+    → b ≡ s ++ position_problems shots fs
+position_lines shots fs s a b one two = then_more s a b _ _ one two
+
 -- all problems
-pub all_lines : (h : HeadFacts) (fs : List Facts) (delays : List ℤ) (floats : Bool) (n a b c d e : List ProblemLine)
+pub all_lines : (h : HeadFacts) (fs : List Facts) (delays : List ℤ) (shots floats : Bool) (n a b c d e f : List ProblemLine)
     → n ≡ []
     → a ≡ n ++ fault_problems (faults_of h fs) (is_some (no_survey_of (inlines fs) (crosslines fs)))
     → b ≡ a ++ no_survey_lines (no_survey_of (inlines fs) (crosslines fs))
     → c ≡ b ++ value_problems fs delays (is_some (no_survey_of (inlines fs) (crosslines fs)))
     → d ≡ c ++ (if is_some (no_survey_of (inlines fs) (crosslines fs)) then [] else survey_problems fs)
-    → e ≡ d ++ sample_problems floats fs
-    → e ≡ problems_with h fs delays floats
-all_lines h fs delays floats n a b c d e none one two three four five =
+    → e ≡ d ++ (if is_some (no_survey_of (inlines fs) (crosslines fs)) then [] else position_problems shots fs)
+    → f ≡ e ++ sample_problems floats fs
+    → f ≡ problems_with h fs delays shots floats
+all_lines h fs delays shots floats n a b c d e f none one two three four five six =
     let lone : Option NoSurvey = no_survey_of (inlines fs) (crosslines fs) in
     let first : a ≡ fault_problems (faults_of h fs) (is_some lone) = one ∙ ap (λ (l : List ProblemLine). l ++ fault_problems (faults_of h fs) (is_some lone)) none in
     let second : b ≡ fault_problems (faults_of h fs) (is_some lone) ++ no_survey_lines lone = two ∙ ap (λ (l : List ProblemLine). l ++ no_survey_lines lone) first in
     let third : c ≡ fault_problems (faults_of h fs) (is_some lone) ++ no_survey_lines lone ++ value_problems fs delays (is_some lone) = three ∙ ap (λ (l : List ProblemLine). l ++ value_problems fs delays (is_some lone)) second in
-    let fourth : d ≡ header_problems h fs delays lone = four ∙ ap (λ (l : List ProblemLine). l ++ (if is_some lone then [] else survey_problems fs)) third in
-    five ∙ ap (λ (l : List ProblemLine). l ++ sample_problems floats fs) fourth
+    let fourth : d ≡ fault_problems (faults_of h fs) (is_some lone) ++ no_survey_lines lone ++ value_problems fs delays (is_some lone) ++ (if is_some lone then [] else survey_problems fs) = four ∙ ap (λ (l : List ProblemLine). l ++ (if is_some lone then [] else survey_problems fs)) third in
+    let fifth : e ≡ header_problems h fs delays shots lone = five ∙ ap (λ (l : List ProblemLine). l ++ (if is_some lone then [] else position_problems shots fs)) fourth in
+    six ∙ ap (λ (l : List ProblemLine). l ++ sample_problems floats fs) fifth

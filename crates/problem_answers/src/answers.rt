@@ -25,9 +25,11 @@ use crate::lines::{
     push_fold, push_group, push_groups, push_missing_crosslines, push_missing_inlines,
     push_no_survey, push_of_file,
 };
-use bench_rules::{Answer, AskFault, Items, ProblemLine, has_float_samples};
+use crate::positions::push_of_positions;
+use bench_rules::{Answer, AskFault, Items, ProblemLine, has_float_samples, is_shot_file};
 use edit_overlay::Overlay;
 use fault_live::{Faults, HeadFacts};
+use field_map::FieldMap;
 use grid_live::{Grid, Line};
 use line_problems::{missing_lines, near_lines, no_survey, uneven_fold};
 use record_table::Records;
@@ -40,11 +42,12 @@ use trace_record::PackedRecord;
 use volume_answers::head_facts;
 
 /// All that is wrong or doubtful, grouped. Looks once at each trace. Takes memory for the faults,
-/// the delays and the answer: refused for want of it, E11; on disk also where a trace could not be
-/// read (E14, E15).
+/// the delays, the cells and the answer: refused for want of it, E11; on disk also where a trace
+/// could not be read (E14, E15).
 pub fn problems_answer(
     alloc: Global,
     overlay: &mut Overlay<PackedRecord>,
+    fields: &FieldMap,
     grid: &Grid,
     triples: &Faults,
 ) -> Result<Answer, AskFault>
@@ -54,7 +57,8 @@ pub fn problems_answer(
     requires triples { Same (tally_of_faults triples.now) (tally_of keys_of_faults
         (map facts_of (map record_in overlay.old.payloads))) }
     ensures reply { (s : State) → s.volume ≡ overlay.old.volume →
-        s.on_disk ≡ overlay.old.loaded.on_disk → IsTrue overlay.new.agreed →
+        s.fields ≡ fields.now.pairs → s.on_disk ≡ overlay.old.loaded.on_disk →
+        IsTrue overlay.new.agreed →
         AreRecordsOf s (map record_in overlay.old.payloads) →
         IsReply s queries.Problems result }
     ensures seen { IsSeen overlay.old overlay.new (count_of overlay.old.volume) }
@@ -63,7 +67,8 @@ pub fn problems_answer(
         Ok(delays) => delays,
         Err(fault) => return Err(fault),
     };
-    match lines_of(alloc, overlay, grid, triples, delays.as_slice()) {
+    let shots = is_shot_file(fields);
+    match lines_of(alloc, overlay, grid, triples, delays.as_slice(), shots) {
         Ok(lines) => Ok(Answer::Problems(Items::new(lines))),
         Err(fault) => Err(fault),
     }
@@ -76,6 +81,7 @@ fn lines_of(
     grid: &Grid,
     triples: &Faults,
     delays: &[i64],
+    shots: bool,
 ) -> Result<Vec<ProblemLine>, AskFault>
     requires few { length overlay.now.payloads < 2 ^ 32 }
     requires delays { length delays.now < 2 ^ 32 }
@@ -85,13 +91,13 @@ fn lines_of(
         (map facts_of (map record_in overlay.now.payloads))) }
     ensures ok { IfOk result (λ lines. lines.items ≡ problems_with
         (head_facts_of overlay.now.volume) (map facts_of (map record_in overlay.now.payloads))
-        delays.now (has_floats overlay.now.volume.head)) }
+        delays.now shots (has_floats overlay.now.volume.head)) }
     ensures err { IfErr result (λ fault. fault ≡ no_memory) }
 {
     let floats = has_float_samples(overlay);
     let head = head_facts(overlay.head(), overlay.text(), overlay.bin());
     let records = Records::new(overlay.payloads());
-    problem_lines(alloc, &head, &records, grid, triples, delays, floats)
+    problem_lines(alloc, &head, &records, grid, triples, delays, shots, floats)
 }
 
 // The lines of all problems of the traces with these records and delays.
@@ -102,6 +108,7 @@ fn problem_lines(
     grid: &Grid,
     triples: &Faults,
     delays: &[i64],
+    shots: bool,
     floats: bool,
 ) -> Result<Vec<ProblemLine>, AskFault>
     requires few { length records.now < 2 ^ 32 }
@@ -111,7 +118,7 @@ fn problem_lines(
     requires triples { Same (tally_of_faults triples.now) (tally_of keys_of_faults
         (map facts_of records.now)) }
     ensures ok { IfOk result (λ lines. lines.items ≡ problems_with head.now
-        (map facts_of records.now) delays.now floats) }
+        (map facts_of records.now) delays.now shots floats) }
     ensures err { IfErr result (λ fault. fault ≡ no_memory) }
 {
     let inlines = grid.inlines(alloc)?;
@@ -130,6 +137,7 @@ fn problem_lines(
         crosslines.as_slice(),
         lone.is_some(),
     )?;
+    push_of_positions(alloc, &mut lines, records, shots, lone.is_some())?;
     push_of_samples(alloc, &mut lines, records, floats)?;
     Ok(lines)
 }

@@ -1,11 +1,14 @@
 // The lines of problems, put behind others.
 ghost use Rattle.std.specs.Prelude.{◌≡◌, ◌∷◌, ◌++◌, flat_map, map, option_map, OnOk, Some};
 ghost use Rattle.line_problems.specs.MissingLines.{told};
+ghost use Rattle.cell_positions.specs.Jumps.{told as told_jumps};
+ghost use Rattle.cell_positions.specs.Shared.{told_shared};
 ghost use Rattle.trace_groups.specs.Groups.{group_in};
-ghost use Rattle.bench_rules.specs.Problems.{file_lines, fold_lines, group_lines, is_behind as is_behind_of, lines_of_groups, missing_lines, no_survey_lines};
+ghost use Rattle.bench_rules.specs.Problems.{file_lines, fold_lines, group_lines, is_behind as is_behind_of, jump_lines, lines_of_groups, missing_lines, no_survey_lines, shared_lines};
 ghost use Rattle.bench_rules.specs.declared.problem_line.ProblemLine.TheVariants as problem_lines;
 
 use bench_rules::ProblemLine;
+use cell_positions::{Jumps, SharedPositions};
 use fault_live::Fault;
 use line_problems::{MissingLines, NoSurvey, UnevenFold};
 use std::alloc::AllocError;
@@ -153,6 +156,59 @@ pub(crate) fn push_fold(
 {
     if let Some(found) = found {
         lines.push(ProblemLine::Fold(found))?;
+    }
+    Ok(())
+}
+
+/// S10 and the first traces of the first cells whose positions jump, where any do. Takes memory.
+pub(crate) fn push_jumps(
+    lines: &mut Vec<ProblemLine>,
+    found: Option<Jumps>,
+) -> Result<(), AllocError>
+    ensures { OnOk result (lines.new.items ≡ lines.old.items
+        ++ jump_lines (option_map told_jumps found)) }
+{
+    match found {
+        Some(found) => push_each_jump(lines, &found),
+        None => Ok(()),
+    }
+}
+
+fn push_each_jump(lines: &mut Vec<ProblemLine>, found: &Jumps) -> Result<(), AllocError>
+    ensures { OnOk result (lines.new.items ≡ lines.old.items
+        ++ jump_lines (Some (told_jumps found.now))) }
+{
+    lines.push(ProblemLine::Jumps(found.pairs, found.jumps))?;
+    let pairs = found.first_jumps.as_slice();
+    for pair in pairs {
+        lines.push(ProblemLine::Jump(*pair))?;
+    }
+    Ok(())
+}
+
+/// S11 and the first traces of the first cells that stand where one before them does, where any do.
+/// Takes memory.
+pub(crate) fn push_shared(
+    lines: &mut Vec<ProblemLine>,
+    found: Option<SharedPositions>,
+) -> Result<(), AllocError>
+    ensures { OnOk result (lines.new.items ≡ lines.old.items
+        ++ shared_lines (option_map told_shared found)) }
+{
+    match found {
+        Some(found) => push_each_shared(lines, &found),
+        None => Ok(()),
+    }
+}
+
+fn push_each_shared(lines: &mut Vec<ProblemLine>, found: &SharedPositions) -> Result<(), AllocError>
+    ensures { OnOk result (lines.new.items ≡ lines.old.items
+        ++ shared_lines (Some (told_shared found.now))) }
+{
+    lines.push(ProblemLine::SharedPositions(found.cells))?;
+    let pairs = found.first_cells.as_slice();
+    for pair in pairs {
+        lines.push(ProblemLine::SharedPosition(*pair))?;
     }
     Ok(())
 }

@@ -1,7 +1,7 @@
 // The commands and their forms.
 
 /// The first words of the commands.
-pub static COMMANDS: [&str; 45] = [
+pub static COMMANDS: [&str; 46] = [
     "set",
     "get",
     "bin",
@@ -47,11 +47,12 @@ pub static COMMANDS: [&str; 45] = [
     "slice",
     "faults",
     "problems",
+    "survey",
 ];
 
 // Their forms, in the same order: `all` stands for P and Q. They are searched: a `match` of so many
 // texts takes minutes to prove.
-static FORMS: [&str; 45] = [
+static FORMS: [&str; 46] = [
     "set P [Q] FIELD NUMBER [where A OP B ..]",
     "get P FIELD",
     "bin FIELD NUMBER",
@@ -97,6 +98,7 @@ static FORMS: [&str; 45] = [
     "slice K",
     "faults",
     "problems",
+    "survey",
 ];
 
 /// The form of a command, by its word: empty where the word is none.

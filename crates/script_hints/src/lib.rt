@@ -33,7 +33,7 @@ pub use crate::fault::{Fault, fault_of};
 pub use crate::fit::Fit;
 pub use crate::load_note::LoadNote;
 pub use crate::look::Look;
-pub use crate::names::{BINARY_NAMES, TRACE_NAMES};
+pub use crate::names::{BINARY_NAMES, SAMPLE_FACTS, TRACE_NAMES};
 pub use crate::note::Note;
 pub use crate::note_line::NoteLine;
 pub use crate::notes::Notes;

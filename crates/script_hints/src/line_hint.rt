@@ -4,7 +4,7 @@ use crate::compute_hint::{computed_number_hint, joined_hint, operations_hint};
 use crate::condition_hint::{condition_hint, in_front_of_conditions, place_of_where, sign_hint};
 use crate::fault::Fault;
 use crate::hint::Hint;
-use crate::names::{BINARY_NAMES, QUANTITIES, TRACE_NAMES};
+use crate::names::{BINARY_NAMES, QUANTITIES, SAMPLE_FACTS, TRACE_NAMES};
 use crate::near::{Near, nearest_of};
 use crate::note::Note;
 use crate::number_hint::number_hint;
@@ -250,9 +250,35 @@ fn no_field(words: &Words) -> Hint {
 // Of a command in front of `where`, and else of the conditions behind it.
 fn no_field_of_conditions(words: &Words, place: usize) -> Hint {
     match no_field_of_command(&words.in_front_of(place)) {
-        Hint::None => first_unknown(words, place.saturating_add(1)),
+        Hint::None => first_unknown_side(words, place.saturating_add(1)),
         hint => hint,
     }
+}
+
+// Of the first word of conditions, from this one on, that is like a name, or a fact about samples.
+fn first_unknown_side(words: &Words, from: usize) -> Hint {
+    for word in words.as_slice().iter().skip(from) {
+        match unknown_side(word) {
+            Hint::None => {}
+            hint => return hint,
+        }
+    }
+    Hint::None
+}
+
+fn unknown_side(word: &[u8]) -> Hint {
+    if is_fact(word) {
+        return Hint::None;
+    }
+    match nearest(word, &SAMPLE_FACTS) {
+        Hint::None => unknown_name(word),
+        hint => hint,
+    }
+}
+
+// Whether the word is a fact about samples.
+fn is_fact(word: &[u8]) -> bool {
+    SAMPLE_FACTS.iter().any(|name| word == name.as_bytes())
 }
 
 // Of a command without conditions. Where it takes any number of names, those of a note are some.
@@ -278,15 +304,21 @@ fn no_field_of_command(words: &Words) -> Hint {
 // but for the `-` of a sort that falls.
 fn first_unknown(words: &Words, from: usize) -> Hint {
     for word in words.as_slice().iter().skip(from) {
-        let word = word.strip_prefix(b"-").unwrap_or(word);
-        if word.first().is_some_and(u8::is_ascii_alphabetic) && !is_trace_name(word) {
-            match trace_field(word) {
-                Hint::None => {}
-                hint => return hint,
-            }
+        match unknown_name(word.strip_prefix(b"-").unwrap_or(word)) {
+            Hint::None => {}
+            hint => return hint,
         }
     }
     Hint::None
+}
+
+// Of a word that is no place and no name that is always there, and like one.
+fn unknown_name(word: &[u8]) -> Hint {
+    if word.first().is_some_and(u8::is_ascii_alphabetic) && !is_trace_name(word) {
+        trace_field(word)
+    } else {
+        Hint::None
+    }
 }
 
 fn is_trace_name(word: &[u8]) -> bool {
@@ -299,6 +331,9 @@ fn is_trace_name(word: &[u8]) -> bool {
 fn trace_field(word: &[u8]) -> Hint {
     let other = "a field of the binary header: bin and getbin";
     match field_hint(word, &TRACE_NAMES, &BINARY_NAMES, other) {
+        Hint::None if is_fact(word) => {
+            Hint::Text("a fact about samples stands in conditions alone: where sample_least < 0")
+        }
         Hint::None if is_name_in_capitals(word) => {
             Hint::Text("names have small letters; those of segyio alone are found in any case")
         }

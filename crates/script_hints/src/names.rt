@@ -110,6 +110,9 @@ pub static TRACE_NAMES: [&str; 105] = [
     "ext_last_trace",
 ];
 
+/// The facts about samples that conditions may name beside the fields of a trace header.
+pub static SAMPLE_FACTS: [&str; 3] = ["sample_least", "sample_greatest", "sample_count"];
+
 /// The names of the binary header.
 pub static BINARY_NAMES: [&str; 21] = [
     "job",

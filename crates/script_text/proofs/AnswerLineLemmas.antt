@@ -19,6 +19,9 @@ use Rattle.grid_live.specs.declared.line.Line.{Line}
 use Rattle.grid_live.specs.declared.fold_count.FoldCount.{FoldCount}
 use Rattle.fault_live.specs.declared.fault.Fault.{Fault}
 use Rattle.fault_live.specs.declared.fault.Fault.TheVariants as faults
+use Rattle.line_problems.specs.declared.spans.LineSpan.{LineSpan}
+use Rattle.position_differences.specs.declared.difference.Difference.{Difference}
+use Rattle.cell_positions.specs.declared.survey.SurveyGrid.{SurveyGrid}
 use Rattle.bench_rules.specs.declared.row.Row.{Row}
 use Rattle.bench_rules.specs.declared.extremes.Extremes.{Extremes}
 use Rattle.bench_rules.specs.declared.info.Info.{Info}
@@ -30,6 +33,7 @@ use Rattle.script_text.specs.Texts.{with_blanks, list_lines, place_text, extensi
 use Rattle.script_text.specs.ReportTexts.{fraction_text, location_text, statistics_text, range_text, cell_text, numbered_text, fold_count_text, row_text, of_trace_text, fault_text, counted_statistics_text, trace_statistics_text}
 use Rattle.script_text.specs.HeaderTexts.{table_row_text, found_text, number_text, four_numbers, extremes_text}
 use Rattle.script_text.specs.AnswerTexts.{order_text, yes_or_no, info_text, code_text, stanza_text, field_text, shown_text, ranks_text, tail_text, trace_ranks_text}
+use Rattle.script_text.specs.SurveyTexts.{difference_text, grid_text, span_text, step_text, survey_text}
 use Rattle.script_text.specs.FullLines.{AnswersAreFullLines}
 use Rattle.script_text.proofs.ProblemLineLemmas.{full_problems}
 use Rattle.script_text.proofs.FullLineLemmas.{plain_both, plain_decimal, full_decimal, plain_signed, plain_numbers, plain_first, plain_joined, Plain, no_word, word, plain_words, full_joined, words_line, one_line, lines_behind, each_full, some_full}
@@ -132,6 +136,25 @@ full_range : (range : Option (Ratio × Ratio)) → is_full_line (range_text rang
 full_range None = refl
 full_range (Some r) = words_line (codes "range") refl (word (fraction_text r.0) (plain_fraction r.0) (word (fraction_text r.1) (plain_fraction r.1) no_word))
 
+plain_step : (s : Option ℤ) → is_plain (step_text s) ≡ true
+plain_step None = refl
+plain_step (Some s) = plain_signed s
+
+plain_span : (s : LineSpan) → is_plain (span_text s) ≡ true
+plain_span s = plain_words (word (signed_decimal s.first) (plain_signed s.first) (word (signed_decimal s.last) (plain_signed s.last) (word (codes "step") refl (word (step_text s.step) (plain_step s.step) no_word))))
+
+plain_difference : (d : Option Difference) → is_plain (difference_text d) ≡ true
+plain_difference None = refl
+plain_difference (Some d) = plain_words (word (fraction_text d.x) (plain_fraction d.x) (word (fraction_text d.y) (plain_fraction d.y) no_word))
+
+full_survey : (grid : Option SurveyGrid) → is_full_line (survey_text grid) ≡ true
+full_survey None = refl
+full_survey (Some g) = words_line (codes "survey inline") refl
+    (word (span_text g.inline) (plain_span g.inline) (word (codes "crossline") refl (word (span_text g.crossline) (plain_span g.crossline)
+    (word (codes "along_inline") refl (word (difference_text g.along_inline) (plain_difference g.along_inline)
+    (word (codes "along_crossline") refl (word (difference_text g.along_crossline) (plain_difference g.along_crossline)
+    (word (codes "cells") refl (word (decimal g.cells) (plain_decimal g.cells) (word (codes "of") refl (word (decimal g.full) (plain_decimal g.full) no_word)))))))))))
+
 full_cell : (c : Cell) → is_full_line (cell_text (codes "cell") c) ≡ true
 full_cell c = words_line (codes "cell") refl (word (signed_decimal c.inline) (plain_signed c.inline)
     (word (signed_decimal c.crossline) (plain_signed c.crossline) (word (decimal c.fold) (plain_decimal c.fold) no_word)))
@@ -216,6 +239,7 @@ answers_are_full_lines (answers.Totals statistics) h = one_line (statistics_text
 answers_are_full_lines (answers.Slice rows) h = a_list (codes "slice") (map (row_text (codes "row")) rows) refl (each_full (row_text (codes "row")) full_row rows)
 answers_are_full_lines (answers.Faults faults) h = a_list (codes "faults") (map fault_text faults) refl (each_full fault_text full_fault faults)
 answers_are_full_lines (answers.Problems lines) h = full_problems lines
+answers_are_full_lines (answers.Survey grid) h = one_line (survey_text grid) (full_survey grid)
 answers_are_full_lines (answers.Lines lines) h = a_list (codes "lines") (map shown_text lines) refl (some_full shown_text is_plain full_shown lines h)
 answers_are_full_lines (answers.Table rows) h = a_list (codes "table") (map table_row_text rows) refl (each_full table_row_text full_table_row rows)
 answers_are_full_lines (answers.Found found) h = a_list (codes "found") (map (found_text (codes "trace")) found) refl (each_full (found_text (codes "trace")) full_found found)

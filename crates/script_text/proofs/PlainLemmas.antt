@@ -43,7 +43,7 @@ use Rattle.bench_rules.specs.declared.query.Query.TheVariants as queries
 use Rattle.bench_rules.specs.declared.refusal.Refusal.{Refusal}
 use Rattle.bench_rules.specs.declared.refusal.Refusal.TheVariants as refusals
 use Rattle.bench_rules.specs.ChosenQueries.{table_of_each, found_of_each, numbers_of_each, asks_for_fields, table_answer_of_each, found_answer_of_each, answer_of_each, answer_of_chosen, answer_under, of_range, chosen_answer}
-use Rattle.bench_rules.specs.Conditions.{chosen_among, range_of, tests_of}
+use Rattle.bench_rules.specs.Conditions.{chosen_among, lacks_values, range_of, tests_of}
 use Rattle.bench_rules.specs.ManyTraces.{each_of}
 use Rattle.bench_rules.specs.Places.{place_in_trace, place_in_binary, is_in_binary}
 use Rattle.bench_rules.specs.Refused.{is_line}
@@ -288,7 +288,9 @@ plain_of_chosen v fields h query (Some ps) = plain_of_each v fields h query ps
 
 plain_under : (v : Volume) (fields : Pairs) → HasPlainNames fields → (range : Option (ℕ × ℕ)) (query : ChosenQuery) (tests : Option (List Test)) → PlainReply (answer_under v fields range query tests)
 plain_under v fields h range query None = tt
-plain_under v fields h range query (Some tests) = plain_of_chosen v fields h query (chosen_among v tests (range_of range))
+plain_under v fields h range query (Some tests) =
+    elim (lacks_values v.head.format tests) as (λ b. PlainReply (cond b (Err NoValues) (answer_of_chosen v fields query (chosen_among v tests (range_of range)))))
+    [ true ↦ tt | false ↦ plain_of_chosen v fields h query (chosen_among v tests (range_of range)) ]
 
 plain_of_range : (v : Volume) (range : Option (ℕ × ℕ)) (reply : Reply) → PlainReply reply → PlainReply (of_range v range reply)
 plain_of_range v None reply h = h
@@ -335,6 +337,7 @@ plain_answer s queries.Totals h = plain_of_values s.volume.head (Ok (answers.Tot
 plain_answer s (queries.Slice k) h = plain_of_values s.volume.head (Ok (answers.Slice (slice_in s k))) tt
 plain_answer s queries.Faults h = tt
 plain_answer s queries.Problems h = tt
+plain_answer s queries.Survey h = tt
 plain_answer s (queries.Lines b) h = plain_lines_answer (block_of s.volume b)
 plain_answer s (queries.Table a b fields) h =
     plain_of_traces s.volume a b (table_answer s.volume a b (each_of (place_in_trace s.fields) fields)) (plain_table_answer s.volume a b (each_of (place_in_trace s.fields) fields))

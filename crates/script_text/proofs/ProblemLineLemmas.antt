@@ -82,6 +82,11 @@ full_problem (lines.MissingCrosslines m r) = full_missing (codes "S8") refl m r
 full_problem (lines.Missing r) = words_line (codes "run") refl
     (word (signed_decimal r.first) (plain_signed r.first) (word (signed_decimal r.last) (plain_signed r.last) (word (codes "step") refl (word (decimal r.step) (plain_decimal r.step) no_word))))
 full_problem (lines.Fold f) = full_fold f
+full_problem (lines.Jumps n j) = words_line (codes "problem S10 pairs") refl
+    (word (decimal n) (plain_decimal n) (word (codes "jumps") refl (word (decimal j) (plain_decimal j) no_word)))
+full_problem (lines.Jump p) = words_line (codes "jump") refl (word (decimal p.earlier) (plain_decimal p.earlier) (word (decimal p.later) (plain_decimal p.later) no_word))
+full_problem (lines.SharedPositions n) = words_line (codes "problem S11 cells") refl (word (decimal n) (plain_decimal n) no_word)
+full_problem (lines.SharedPosition p) = words_line (codes "run") refl (word (decimal p.later) (plain_decimal p.later) (word (decimal p.earlier) (plain_decimal p.earlier) no_word))
 
 pub counted : (n : ℕ) → is_full_line (codes "problems" ++ codes " " ++ decimal n) ≡ true
 counted n = full_joined (codes "problems") refl (word (codes " ") refl (word (decimal n) (plain_decimal n) no_word))

@@ -30,3 +30,16 @@ five_numbered w a b c d e f g h i j = simp append_assoc
 -- three texts and three numbers, each behind its word
 pub six_behind : (w a b c d e f g h i j k l : List ℕ) → (((w ++ (a ++ (b ++ (c ++ (d ++ (e ++ f)))))) ++ (g ++ h)) ++ (i ++ j)) ++ (k ++ l) ≡ w ++ (a ++ (b ++ (c ++ (d ++ (e ++ (f ++ (g ++ (h ++ (i ++ (j ++ (k ++ l)))))))))))
 six_behind w a b c d e f g h i j k l = simp append_assoc
+
+-- two numbers and a word, each behind its own
+pub span_parts : (w a b c d e f : List ℕ) → (((w ++ (a ++ b)) ++ (c ++ d)) ++ e) ++ f ≡ w ++ (a ++ (b ++ (c ++ (d ++ (e ++ f)))))
+span_parts w a b c d e f = simp append_assoc
+
+-- two texts with one between them
+pub both_parts : (w a b c : List ℕ) → ((w ++ a) ++ b) ++ c ≡ w ++ (a ++ (b ++ c))
+both_parts w a b c = simp append_assoc
+
+-- six texts, each behind its word
+pub grid_parts : (a b c d e f g h i j k l : List ℕ)
+    → (((((a ++ b) ++ (c ++ d)) ++ (e ++ f)) ++ (g ++ h)) ++ (i ++ j)) ++ (k ++ l) ≡ a ++ (b ++ (c ++ (d ++ (e ++ (f ++ (g ++ (h ++ (i ++ (j ++ (k ++ l))))))))))
+grid_parts a b c d e f g h i j k l = simp append_assoc

@@ -15,6 +15,7 @@ use Rattle.bench_rules.specs.declared.trace_statistics.FloatTraceStatistics.{Flo
 use Rattle.text_block.specs.Lines.{without_blanks}
 use Rattle.script_text.specs.HeaderTexts.{table_row_text, found_text, number_text, extremes_text}
 use Rattle.script_text.specs.ProblemTexts.{problems_text}
+use Rattle.script_text.specs.SurveyTexts.{survey_text}
 use Rattle.script_text.specs.ReportTexts.{location_text, statistics_text, range_text, cell_text, numbered_text, fold_count_text, row_text, fault_text, trace_statistics_text}
 use Rattle.script_text.specs.Texts.{with_blanks, with_line_end, list_lines, place_text}
 
@@ -95,6 +96,7 @@ answer_text (answers.Totals statistics) = with_line_end (statistics_text (codes 
 answer_text (answers.Slice rows) = list_lines (codes "slice") (map (row_text (codes "row")) rows)
 answer_text (answers.Faults faults) = list_lines (codes "faults") (map fault_text faults)
 answer_text (answers.Problems lines) = problems_text lines
+answer_text (answers.Survey grid) = with_line_end (survey_text grid)
 answer_text (answers.Lines lines) = list_lines (codes "lines") (map shown_text lines)
 answer_text (answers.Table rows) = list_lines (codes "table") (map table_row_text rows)
 answer_text (answers.Found found) = list_lines (codes "found") (map (found_text (codes "trace")) found)

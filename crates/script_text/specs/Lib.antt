@@ -10,6 +10,8 @@ pub mod Devices
 pub mod Printing
 pub mod ReportTexts
 pub mod ReportExamples
+pub mod SurveyTexts
+pub mod SurveyExamples
 pub mod ProblemExamples
 pub mod HeaderExamples
 pub mod FullLines

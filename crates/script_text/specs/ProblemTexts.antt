@@ -4,6 +4,7 @@ use Rattle.std.specs.Fmt.{signed_decimal}
 use Rattle.line_problems.specs.declared.missing.MissingRun.{MissingRun}
 use Rattle.line_problems.specs.declared.survey_numbers.NoSurvey.{NoSurvey}
 use Rattle.line_problems.specs.declared.folds.UnevenFold.{UnevenFold}
+use Rattle.cell_positions.specs.declared.trace_pair.TracePair.{TracePair}
 use Rattle.trace_groups.specs.declared.run.Run.{Run}
 use Rattle.trace_groups.specs.declared.problem.TraceProblem.{TraceProblem}
 use Rattle.trace_groups.specs.declared.problem.TraceProblem.TheVariants as problems
@@ -82,6 +83,14 @@ fold_text f = with_blanks
     ∷ codes "least" ∷ decimal f.least
     ∷ codes "greatest" ∷ decimal f.greatest ∷ [])
 
+-- so many pairs of cells, of which so many jump
+abbrev pub jumps_text : ℕ → ℕ → List ℕ
+jumps_text pairs jumps = with_blanks (codes "problem S10 pairs" ∷ decimal pairs ∷ codes "jumps" ∷ decimal jumps ∷ [])
+
+-- two traces behind this word
+abbrev pub pair_text : List ℕ → ℕ → ℕ → List ℕ
+pair_text word p q = with_blanks (word ∷ decimal p ∷ decimal q ∷ [])
+
 -- a line
 abbrev pub problem_text : ProblemLine → List ℕ
 problem_text (lines.Traces p n r) = with_blanks (codes "problem" ∷ code_of_problem p ∷ codes "traces" ∷ decimal n ∷ codes "runs" ∷ decimal r ∷ [])
@@ -93,6 +102,10 @@ problem_text (lines.MissingInlines m r) = missing_text (codes "S7") m r
 problem_text (lines.MissingCrosslines m r) = missing_text (codes "S8") m r
 problem_text (lines.Missing r) = missing_run_text r
 problem_text (lines.Fold f) = fold_text f
+problem_text (lines.Jumps n j) = jumps_text n j
+problem_text (lines.Jump p) = pair_text (codes "jump") p.earlier p.later
+problem_text (lines.SharedPositions n) = with_blanks (codes "problem S11 cells" ∷ decimal n ∷ [])
+problem_text (lines.SharedPosition p) = pair_text (codes "run") p.later p.earlier
 
 -- the line begins a problem, and is no run of one
 abbrev pub begins_problem : ProblemLine → Bool
@@ -105,6 +118,10 @@ begins_problem (lines.MissingInlines m r) = true
 begins_problem (lines.MissingCrosslines m r) = true
 begins_problem (lines.Missing r) = false
 begins_problem (lines.Fold f) = true
+begins_problem (lines.Jumps n j) = true
+begins_problem (lines.Jump p) = false
+begins_problem (lines.SharedPositions n) = true
+begins_problem (lines.SharedPosition p) = false
 
 -- how many problems there are, and then the lines of each
 abbrev pub problems_text : List ProblemLine → List ℕ

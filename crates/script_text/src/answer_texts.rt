@@ -10,6 +10,7 @@ use crate::long_texts::{LongLine, push_long_list};
 use crate::out_buffer::OutBuffer;
 use crate::problem_texts::push_problems;
 use crate::report_texts::{location_line, range_line, statistics_line};
+use crate::survey_texts::survey_line;
 use crate::table_texts::push_table;
 use crate::text_buffer::TextBuffer;
 use bench_rules::{Answer, FloatStatistics, Info};
@@ -64,6 +65,7 @@ pub(crate) fn push_answer<W: Write>(
         Answer::FloatStat(found) => out.push(writer, ranks_line(*found).as_slice()),
         Answer::Fold(fold) => out.push(writer, numbered_line(b"fold ", *fold).as_slice()),
         Answer::Range(range) => out.push(writer, range_line(*range).as_slice()),
+        Answer::Survey(grid) => out.push(writer, survey_line(*grid).as_slice()),
         Answer::Totals(found) => out.push(writer, statistics_line(b"totals", *found).as_slice()),
     }
 }

@@ -20,6 +20,7 @@ mod run_end;
 mod script_fault;
 mod session_fault;
 mod stats_texts;
+mod survey_texts;
 mod table_texts;
 mod text_buffer;
 mod text_from_end;

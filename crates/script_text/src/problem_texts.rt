@@ -1,9 +1,9 @@
 // The lines that are printed for what is wrong or doubtful with a file.
-ghost use Rattle.std.specs.Prelude.{◌≡◌, ◌≤◌, ◌+◌, ◌++◌, [], length, count_by};
+ghost use Rattle.std.specs.Prelude.{◌≡◌, ◌≤◌, ◌+◌, ◌++◌, [], codes, decimal, length, count_by};
 ghost use Rattle.std.specs.Fmt.{signed_decimal};
 ghost use Rattle.script_text.specs.Devices.{device_of};
 ghost use Rattle.script_text.specs.Printing.{Pushes};
-ghost use Rattle.script_text.specs.ProblemTexts.{begins_problem, code_of_problem, fold_text, no_survey_text, problem_text, problems_text, run_text};
+ghost use Rattle.script_text.specs.ProblemTexts.{begins_problem, code_of_problem, fold_text, jumps_text, no_survey_text, problem_text, problems_text, run_text};
 
 use crate::list_texts::{Listed, push_counted};
 use crate::out_buffer::OutBuffer;
@@ -43,7 +43,13 @@ fn problems_in(lines: &[ProblemLine]) -> u64
 pub(crate) fn begins(line: ProblemLine) -> bool
     ensures { result ≡ begins_problem line }
 {
-    !matches!(line, ProblemLine::Run(..) | ProblemLine::Missing(_))
+    !matches!(
+        line,
+        ProblemLine::Run(..)
+            | ProblemLine::Missing(_)
+            | ProblemLine::Jump(_)
+            | ProblemLine::SharedPosition(_)
+    )
 }
 
 impl Listed for ProblemLine {
@@ -78,6 +84,12 @@ impl Listed for ProblemLine {
                 line.push_numbered(b" step ", run.step);
             }
             ProblemLine::Fold(fold) => push_fold(line, fold),
+            ProblemLine::Jumps(pairs, jumps) => push_jumps(line, pairs, jumps),
+            ProblemLine::Jump(pair) => push_pair(line, b"jump ", pair.earlier, pair.later),
+            ProblemLine::SharedPositions(cells) => {
+                line.push_numbered(b"problem S11 cells ", cells);
+            }
+            ProblemLine::SharedPosition(pair) => push_pair(line, b"run ", pair.later, pair.earlier),
         }
     }
 }
@@ -176,4 +188,25 @@ fn push_fold(line: &mut TextBuffer, fold: UnevenFold)
     line.push_numbered(b" more ", fold.more);
     line.push_numbered(b" least ", fold.least);
     line.push_numbered(b" greatest ", fold.greatest);
+}
+
+// How many pairs of neighbouring cells there are, and how many of them jump.
+fn push_jumps(line: &mut TextBuffer, pairs: u64, jumps: u64)
+    requires { line.old ≡ [] }
+    ensures text { line.new ≡ jumps_text pairs jumps }
+    ensures short { length line.new ≤ 639 }
+{
+    line.push_numbered(b"problem S10 pairs ", pairs);
+    line.push_numbered(b" jumps ", jumps);
+}
+
+// Two traces behind a word.
+fn push_pair(line: &mut TextBuffer, word: &[u8], first: u32, second: u32)
+    requires empty { line.old ≡ [] }
+    requires word { length word.now ≤ 20 }
+    ensures text { line.new ≡ word.now ++ (decimal first ++ (codes " " ++ decimal second)) }
+    ensures short { length line.new ≤ 639 }
+{
+    line.push_numbered(word, first);
+    line.push_spaced(second);
 }

@@ -1,5 +1,5 @@
 // The lines that are printed for reports.
-ghost use Rattle.std.specs.Prelude.{◌≡◌, ◌≤◌, ◌+◌, ◌++◌, [], Some, length};
+ghost use Rattle.std.specs.Prelude.{◌≡◌, ◌≤◌, ◌+◌, ◌++◌, [], Some, codes, decimal, length};
 ghost use Rattle.script_text.specs.ReportTexts.{location_text, fraction_text, statistics_text, range_text, cell_text, numbered_text, fold_count_text, row_text, fault_text};
 ghost use Rattle.script_text.specs.Texts.{with_line_end};
 
@@ -29,16 +29,25 @@ pub(crate) fn location_line(location: Location) -> TextBuffer
     line
 }
 
-// A fraction, or a whole number alone.
-fn push_fraction(line: &mut TextBuffer, ratio: Ratio)
+/// A fraction, or a whole number alone.
+pub(crate) fn push_fraction(line: &mut TextBuffer, ratio: Ratio)
     requires { length line.old ≤ 500 }
     ensures text { line.new ≡ line.old ++ fraction_text ratio }
-    ensures short { length line.new ≤ length line.old + 81 }
+    ensures short { length line.new ≤ length line.old + 51 }
 {
     line.push_number(ratio.num);
     if ratio.den != 1 {
-        line.push_numbered(b"/", ratio.den);
+        push_denominator(line, ratio.den);
     }
+}
+
+// What a number is over: ten digits at most.
+fn push_denominator(line: &mut TextBuffer, den: u32)
+    requires { length line.old ≤ 540 }
+    ensures text { line.new ≡ line.old ++ (codes "/" ++ decimal den) }
+    ensures short { length line.new ≤ length line.old + 11 }
+{
+    line.push_numbered(b"/", den);
 }
 
 /// The line of statistics, behind this word.

@@ -9,6 +9,7 @@ use Rattle.bench_rules.specs.declared.edit.Edit.{Edit}
 use Rattle.bench_rules.specs.declared.edit.Edit.TheVariants as edits
 use Rattle.bench_rules.specs.declared.query.Query.{Query}
 use Rattle.bench_rules.specs.declared.query.Query.TheVariants as queries
+use Rattle.float_codes.specs.declared.float_format.FloatFormat.{FloatFormat}
 use Rattle.script_words.specs.declared.command.Command.{Command}
 use Rattle.script_words.specs.declared.command.Command.TheVariants.{Apply, Ask}
 use Rattle.script_words.specs.declared.line_fault.LineFault.{LineFault}
@@ -170,13 +171,13 @@ module _ (traces : ℕ) (each : List (List ℕ) → Read) (words : List (List �
 
 -- ---- commands with conditions
 
-module _ (none : Bool) (words : List (List ℕ)) where
+module _ (floats : Option FloatFormat) (none : Bool) (words : List (List ℕ)) where
   -- the conditions, where they are read
   abbrev of_read : Read → Option (List Condition) → Read
   of_read (Ok command) all = ok_or (option_map (λ conditions. under none conditions command) all) Number
   of_read (Err fault) all = Err fault
 
-  same_read : (e : Read) → by_conditions none words e ≡ of_read e (conditions_of words)
+  same_read : (e : Read) → by_conditions floats none words e ≡ of_read e (conditions_of floats words)
   same_read (Ok command) = refl
   same_read (Err fault) = refl
 
@@ -185,9 +186,9 @@ module _ (none : Bool) (words : List (List ℕ)) where
   ok_by command conditions (Some cs) (inl h) = let same : cs ≡ conditions = cc in inl (ap (λ (l : List Condition). let r : Read = Ok (under none l command) in r) (sym same))
   ok_by command conditions (Some cs) (inr h) = absurd cc
 
-  pub by_ok : (e : Read) (command : Command) (conditions : List Condition) → IsRead e (Ok command) → IsListRead (conditions_of words) (Ok conditions)
-      → IsRead (by_conditions none words e) (Ok (under none conditions command))
-  by_ok e command conditions (inl h) g = rw (← h) (ok_by command conditions (conditions_of words) g)
+  pub by_ok : (e : Read) (command : Command) (conditions : List Condition) → IsRead e (Ok command) → IsListRead (conditions_of floats words) (Ok conditions)
+      → IsRead (by_conditions floats none words e) (Ok (under none conditions command))
+  by_ok e command conditions (inl h) g = rw (← h) (ok_by command conditions (conditions_of floats words) g)
   by_ok e command conditions (inr h) g = absurd cc
 
   err_by : (command : Command) (fault : LineFault) (all : Option (List Condition)) → has_range command ≡ true → IsListRead all (Err fault) → IsRead (of_read (Ok command) all) (Err fault)
@@ -196,14 +197,14 @@ module _ (none : Bool) (words : List (List ℕ)) where
   err_by command fault (Some cs) range (inr h) = let same : fault ≡ OutOfMemory = cc in rw same (inr (refl, holds_list none cs command range))
 
   -- the conditions were not read
-  pub by_err : (e : Read) (command : Command) (fault : LineFault) → IsOfRange e → IsRead e (Ok command) → IsListRead (conditions_of words) (Err fault)
-      → IsRead (by_conditions none words e) (Err fault)
+  pub by_err : (e : Read) (command : Command) (fault : LineFault) → IsOfRange e → IsRead e (Ok command) → IsListRead (conditions_of floats words) (Err fault)
+      → IsRead (by_conditions floats none words e) (Err fault)
   by_err e command fault range (inl h) g =
-      let has : has_range command ≡ true = subst (λ (r : Read). IsOfRange r) (sym h) range in rw (← h) (err_by command fault (conditions_of words) has g)
+      let has : has_range command ≡ true = subst (λ (r : Read). IsOfRange r) (sym h) range in rw (← h) (err_by command fault (conditions_of floats words) has g)
   by_err e command fault range (inr h) g = absurd cc
 
   -- the words in front of them were not
-  pub front_err : (e : Read) (fault : LineFault) → IsRead e (Err fault) → (fault ≡ OutOfMemory → ⊥) → IsRead (by_conditions none words e) (Err fault)
+  pub front_err : (e : Read) (fault : LineFault) → IsRead e (Err fault) → (fault ≡ OutOfMemory → ⊥) → IsRead (by_conditions floats none words e) (Err fault)
   front_err e fault (inl h) other = rw (← h) (inl refl)
   front_err e fault (inr h) other = absurd (other cc)
 
@@ -212,30 +213,30 @@ module _ (none : Bool) (words : List (List ℕ)) where
   want_by command (Some cs) h = inr (refl, still_holds none cs command h)
 
   -- or memory was wanted for them
-  pub front_want : (e : Read) → IsOfRange e → IsRead e (Err OutOfMemory) → IsRead (by_conditions none words e) (Err (cond (is_some (conditions_of words)) OutOfMemory Number))
+  pub front_want : (e : Read) → IsOfRange e → IsRead e (Err OutOfMemory) → IsRead (by_conditions floats none words e) (Err (cond (is_some (conditions_of floats words)) OutOfMemory Number))
   front_want (Ok command) range (inl h) = absurd cc
-  front_want (Ok command) range (inr h) = want_by command (conditions_of words) h.1
+  front_want (Ok command) range (inr h) = want_by command (conditions_of floats words) h.1
   front_want (Err fault) (inl f) (inl h) = absurd cc
   front_want (Err fault) (inr f) (inl h) = absurd cc
   front_want (Err fault) range (inr h) = absurd h.1
 
-module _ (traces : ℕ) (which : RangeCommand) (front behind : List (List ℕ)) (has : has_conditions behind ≡ true) where
+module _ (floats : Option FloatFormat) (traces : ℕ) (which : RangeCommand) (front behind : List (List ℕ)) (has : has_conditions behind ≡ true) where
   abbrev expected : Read
-  expected = of_conditions traces (read_each traces which) front behind
+  expected = of_conditions floats traces (read_each traces which) front behind
 
-  opened : expected ≡ by_conditions (is_of_none traces front) behind (read_each traces which (spelled front))
+  opened : expected ≡ by_conditions floats (is_of_none traces front) behind (read_each traces which (spelled front))
   opened = rw has refl
 
   pub chosen_ok : (none : Bool) (command result : Command) (conditions : List Condition) → none ≡ is_of_none traces front → IsRead (read_each traces which (spelled front)) (Ok command)
-      → IsListRead (conditions_of behind) (Ok conditions) → result ≡ under none conditions command → IsRead expected (Ok result)
-  chosen_ok none command result conditions e h g is = rw (opened, is, e) (by_ok (is_of_none traces front) behind (read_each traces which (spelled front)) command conditions h g)
+      → IsListRead (conditions_of floats behind) (Ok conditions) → result ≡ under none conditions command → IsRead expected (Ok result)
+  chosen_ok none command result conditions e h g is = rw (opened, is, e) (by_ok floats (is_of_none traces front) behind (read_each traces which (spelled front)) command conditions h g)
 
-  pub chosen_err : (command : Command) (fault : LineFault) (r : Read) → IsRead (read_each traces which (spelled front)) (Ok command) → IsListRead (conditions_of behind) (Err fault)
+  pub chosen_err : (command : Command) (fault : LineFault) (r : Read) → IsRead (read_each traces which (spelled front)) (Ok command) → IsListRead (conditions_of floats behind) (Err fault)
       → IsErrAnd r (λ e. e ≡ fault) → IsRead expected r
   chosen_err command fault r h g is =
       passed_on expected r fault
-      (rw opened (by_err (is_of_none traces front) behind (read_each traces which (spelled front)) command fault (each_of_range traces which (spelled front)) h g))
+      (rw opened (by_err floats (is_of_none traces front) behind (read_each traces which (spelled front)) command fault (each_of_range traces which (spelled front)) h g))
       is
 
-  pub chosen_want : (fault : LineFault) → IsRead (read_each traces which (spelled front)) (Err OutOfMemory) → fault ≡ cond (is_some (conditions_of behind)) OutOfMemory Number → IsRead expected (Err fault)
-  chosen_want fault h is = rw (opened, is) (front_want (is_of_none traces front) behind (read_each traces which (spelled front)) (each_of_range traces which (spelled front)) h)
+  pub chosen_want : (fault : LineFault) → IsRead (read_each traces which (spelled front)) (Err OutOfMemory) → fault ≡ cond (is_some (conditions_of floats behind)) OutOfMemory Number → IsRead expected (Err fault)
+  chosen_want fault h is = rw (opened, is) (front_want floats (is_of_none traces front) behind (read_each traces which (spelled front)) (each_of_range traces which (spelled front)) h)

@@ -10,6 +10,8 @@ use Rattle.bench_rules.specs.declared.condition.Condition.{Condition}
 use Rattle.bench_rules.specs.declared.edit.Edit.{Edit}
 use Rattle.bench_rules.specs.declared.edit.Edit.TheVariants as edits
 use Rattle.bench_rules.specs.declared.query.Query.{Query}
+use Rattle.bench_rules.specs.declared.side.Side.{Side}
+use Rattle.bench_rules.specs.declared.side.Side.TheVariants as sides
 use Rattle.bench_rules.specs.declared.query.Query.TheVariants as queries
 use Rattle.script_words.specs.declared.command.Command.{Command}
 use Rattle.script_words.specs.declared.command.Command.TheVariants.{Apply, Ask}
@@ -118,12 +120,12 @@ commands floats traces rest =
     ∷ (codes "info", read_info)
     ∷ (codes "sample", read_sample traces)
     ∷ (codes "patch", read_patch floats traces)
-    ∷ (codes "fill", read_ranged traces (Fill floats))
+    ∷ (codes "fill", read_ranged floats traces (Fill floats))
     ∷ (codes "blank", read_blank traces)
     ∷ (codes "copy", read_copy traces)
     ∷ (codes "move", read_move traces)
     ∷ (codes "resize", read_resize traces)
-    ∷ header_commands traces
+    ∷ header_commands floats traces
 
 -- the reader's command, where the word has a reader
 abbrev pub read_by : {C : Type 0} → Option (Reader C) → List (List ℕ) → Result C LineFault
@@ -174,6 +176,16 @@ OperandHoldsMemory (operands.Field field) = IsName field
 abbrev pub IsOperandRead : Option Operand → Result Operand LineFault → Type 0
 IsOperandRead None result = result ≡ Err Number
 IsOperandRead (Some operand) result = (result ≡ Ok operand) ⊎ ((result ≡ Err OutOfMemory) × OperandHoldsMemory operand)
+
+-- a side that is a name holds a text
+abbrev pub SideHoldsMemory : Side → Type 0
+SideHoldsMemory (sides.Operand operand) = OperandHoldsMemory operand
+SideHoldsMemory (sides.Decimal amount) = ⊥
+
+-- what is read as a side: S03 for none, else the side, or want of memory for a name
+abbrev pub IsSideRead : Option Side → Result Side LineFault → Type 0
+IsSideRead None result = result ≡ Err Number
+IsSideRead (Some side) result = (result ≡ Ok side) ⊎ ((result ≡ Err OutOfMemory) × SideHoldsMemory side)
 
 -- what is read as a condition: S03 for none, else the condition, or want of memory
 abbrev pub IsConditionRead : Option Condition → Result Condition LineFault → Type 0
@@ -230,6 +242,7 @@ QueryHoldsMemory queries.Totals = ⊥
 QueryHoldsMemory (queries.Slice k) = ⊥
 QueryHoldsMemory queries.Faults = ⊥
 QueryHoldsMemory queries.Problems = ⊥
+QueryHoldsMemory queries.Survey = ⊥
 QueryHoldsMemory (queries.Lines b) = ⊥
 QueryHoldsMemory (queries.Table a b fields) = Unit {0}
 QueryHoldsMemory (queries.Find a b field low high) = IsName field

@@ -15,6 +15,7 @@ use Rattle.bench_rules.specs.declared.operand.Operand.TheVariants as operands
 use Rattle.bench_rules.specs.declared.operator.Operator.TheVariants.{Plus}
 use Rattle.bench_rules.specs.declared.edit.Edit.TheVariants as edits
 use Rattle.bench_rules.specs.declared.query.Query.TheVariants as queries
+use Rattle.bench_rules.specs.declared.side.Side.TheVariants as sides
 use Rattle.script_words.specs.declared.command.Command.TheVariants.{Apply, Ask}
 use Rattle.script_words.specs.declared.line_fault.LineFault.TheVariants.{Words, Number}
 use Rattle.script_words.specs.Conditions.{condition_of, has_conditions}
@@ -27,7 +28,7 @@ named name = fields.Name name
 
 -- a condition on a field and a number
 abbrev when : List ℕ → Comparison → ℤ → Condition
-when name comparison x = record { left = operands.Field (fields.Name name); comparison = comparison; right = operands.Number x }
+when name comparison x = record { left = sides.Operand (operands.Field (fields.Name name)); comparison = comparison; right = sides.Operand (operands.Number x) }
 
 -- the traces of a range that meet conditions
 abbrev those : Option (ℕ × ℕ) → List Condition → Chosen
@@ -184,7 +185,8 @@ unfolding is_utf8 chars encode_utf8
 where-count_all = refl
 
 -- either side may be a number or a field, by its name or its place
-pub condition-places : condition_of (codes "@189:4") (codes "<") (codes "sx") ≡ Some (record { left = operands.Field (fields.Place (signed_at 189 4)); comparison = Less; right = operands.Field (named (codes "sx")) })
+pub condition-places : condition_of None (codes "@189:4") (codes "<") (codes "sx")
+    ≡ Some (record { left = sides.Operand (operands.Field (fields.Place (signed_at 189 4))); comparison = Less; right = sides.Operand (operands.Field (named (codes "sx"))) })
 condition-places = refl
 
 -- ---- the key word

@@ -15,3 +15,4 @@ pub mod LineExamples
 pub mod MoveExamples
 pub mod HeaderExamples
 pub mod ConditionExamples
+pub mod FactExamples

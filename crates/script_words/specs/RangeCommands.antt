@@ -86,23 +86,23 @@ read_plain traces Delete = read_delete traces
 read_plain traces Count = read_count
 read_plain traces which = of_range traces (read_each traces which)
 
--- the command, with conditions or without
-abbrev pub read_ranged : ℕ → RangeCommand → Reader Command
-read_ranged traces which = ranged traces (read_each traces which) (read_plain traces which)
+-- the command, with conditions or without; the format of samples that are floats comes first
+abbrev pub read_ranged : Option FloatFormat → ℕ → RangeCommand → Reader Command
+read_ranged floats traces which = ranged floats traces (read_each traces which) (read_plain traces which)
 
 -- each word of the commands on the headers of traces with what reads the words behind it, and then those of the reports; a sort has no conditions
-abbrev pub header_commands : ℕ → List (List ℕ × Reader Command)
-header_commands traces =
-    (codes "table", read_ranged traces Table)
-    ∷ (codes "find", read_ranged traces Find)
-    ∷ (codes "extremes", read_ranged traces Extremes)
-    ∷ (codes "set", read_ranged traces Set)
-    ∷ (codes "renumber", read_ranged traces Renumber)
-    ∷ (codes "compute", read_ranged traces Compute)
-    ∷ (codes "delete", read_ranged traces Delete)
-    ∷ (codes "count", read_ranged traces Count)
-    ∷ (codes "stats", read_ranged traces Stats)
-    ∷ (codes "swap", read_ranged traces Swap)
+abbrev pub header_commands : Option FloatFormat → ℕ → List (List ℕ × Reader Command)
+header_commands floats traces =
+    (codes "table", read_ranged floats traces Table)
+    ∷ (codes "find", read_ranged floats traces Find)
+    ∷ (codes "extremes", read_ranged floats traces Extremes)
+    ∷ (codes "set", read_ranged floats traces Set)
+    ∷ (codes "renumber", read_ranged floats traces Renumber)
+    ∷ (codes "compute", read_ranged floats traces Compute)
+    ∷ (codes "delete", read_ranged floats traces Delete)
+    ∷ (codes "count", read_ranged floats traces Count)
+    ∷ (codes "stats", read_ranged floats traces Stats)
+    ∷ (codes "swap", read_ranged floats traces Swap)
     ∷ (codes "sort", of_range traces (read_sort traces))
     ∷ (codes "header", read_header traces)
     ∷ report_commands traces

@@ -11,6 +11,7 @@ use Rattle.bench_rules.specs.declared.edit.Edit.{Edit}
 use Rattle.bench_rules.specs.declared.edit.Edit.TheVariants as edits
 use Rattle.bench_rules.specs.declared.query.Query.{Query}
 use Rattle.bench_rules.specs.declared.query.Query.TheVariants as queries
+use Rattle.float_codes.specs.declared.float_format.FloatFormat.{FloatFormat}
 use Rattle.script_words.specs.declared.command.Command.{Command}
 use Rattle.script_words.specs.declared.command.Command.TheVariants.{Apply, Ask}
 use Rattle.script_words.specs.declared.line_fault.LineFault.{LineFault}
@@ -79,20 +80,21 @@ of_range traces each words =
     if is_of_none traces words then read_under true [] (each (spelled words)) else each (spelled words)
 
 -- what is read, if it is a command, on the traces that meet the conditions that these words are
-abbrev pub by_conditions : Bool → List (List ℕ) → Result Command LineFault → Result Command LineFault
-by_conditions none words (Ok command) = ok_or (option_map (λ conditions. under none conditions command) (conditions_of words)) Number
-by_conditions none words (Err fault) = Err fault
+abbrev pub by_conditions : Option FloatFormat → Bool → List (List ℕ) → Result Command LineFault → Result Command LineFault
+by_conditions floats none words (Ok command) = ok_or (option_map (λ conditions. under none conditions command) (conditions_of floats words)) Number
+by_conditions floats none words (Err fault) = Err fault
 
--- the command of the words in front of `where`, on the traces that meet the conditions behind it; wrong numbers of words are told first
-abbrev pub of_conditions : ℕ → Reader Command → List (List ℕ) → List (List ℕ) → Result Command LineFault
-of_conditions traces each front behind =
-    if has_conditions behind then by_conditions (is_of_none traces front) behind (each (spelled front)) else Err Words
+-- the command of the words in front of `where`, on the traces that meet the conditions behind it; wrong numbers of words are told first.
+-- The format of samples that are floats comes first
+abbrev pub of_conditions : Option FloatFormat → ℕ → Reader Command → List (List ℕ) → List (List ℕ) → Result Command LineFault
+of_conditions floats traces each front behind =
+    if has_conditions behind then by_conditions floats (is_of_none traces front) behind (each (spelled front)) else Err Words
 
 -- the command of a line, by whether conditions stand in it
-abbrev pub read_where : ℕ → Reader Command → Reader Command → Option (List (List ℕ)) → Reader Command
-read_where traces each plain None words = plain words
-read_where traces each plain (Some behind) words = of_conditions traces each (in_front words) behind
+abbrev pub read_where : Option FloatFormat → ℕ → Reader Command → Reader Command → Option (List (List ℕ)) → Reader Command
+read_where floats traces each plain None words = plain words
+read_where floats traces each plain (Some behind) words = of_conditions floats traces each (in_front words) behind
 
 -- a command that may have conditions: what reads its words without them, and what reads those in front of them
-abbrev pub ranged : ℕ → Reader Command → Reader Command → Reader Command
-ranged traces each plain words = read_where traces each plain (behind_where words) words
+abbrev pub ranged : Option FloatFormat → ℕ → Reader Command → Reader Command → Reader Command
+ranged floats traces each plain words = read_where floats traces each plain (behind_where words) words

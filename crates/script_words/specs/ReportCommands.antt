@@ -54,6 +54,10 @@ read_faults = alone (Ask queries.Faults)
 abbrev pub read_problems : Reader Command
 read_problems = alone (Ask queries.Problems)
 
+-- `survey`
+abbrev pub read_survey : Reader Command
+read_survey = alone (Ask queries.Survey)
+
 -- each report's word with what reads the words behind it
 abbrev pub report_commands : ℕ → List (List ℕ × Reader Command)
 report_commands traces =
@@ -69,4 +73,5 @@ report_commands traces =
     ∷ (codes "slice", read_slice)
     ∷ (codes "faults", read_faults)
     ∷ (codes "problems", read_problems)
+    ∷ (codes "survey", read_survey)
     ∷ []

@@ -2,13 +2,16 @@
 ghost use Rattle.std.specs.Prelude.{◌≡◌, is_some, length, min, Some, None, IfSome, IfNone, if◌then◌else◌};
 ghost use Rattle.script_words.specs.declared.line_fault.LineFault.TheVariants.{OutOfMemory as no_memory, Number as no_number};
 ghost use Rattle.script_words.specs.Words.{words_of};
-ghost use Rattle.script_words.specs.Conditions.{comparison_of, condition_of, are_joined as all_joined, has_conditions as has_all, conditions_of, begins_conditions as begin_conditions, in_front, behind_where};
-ghost use Rattle.script_words.specs.Commands.{IsConditionRead, IsListRead};
+ghost use Rattle.script_words.specs.Conditions.{comparison_of, condition_of, decimal_of, is_extreme as is_an_extreme, is_to_be_decimal, side_of, are_joined as all_joined, has_conditions as has_all, conditions_of, begins_conditions as begin_conditions, in_front, behind_where};
+ghost use Rattle.script_words.specs.Commands.{IsConditionRead, IsListRead, IsSideRead};
 
 use crate::compute_command::{is_operand, operand};
 use crate::line_fault::LineFault;
+use crate::numbers::{is_number_like, number};
 use crate::words::{Words, number_of_words};
-use bench_rules::{Comparison, Condition, Items};
+use bench_rules::{Comparison, Condition, Items, Side};
+use exact_amounts::Amount;
+use float_codes::FloatFormat;
 use std::alloc::Global;
 
 // The comparison that a word is the sign of.
@@ -80,45 +83,106 @@ pub(crate) fn has_conditions(text: &str) -> bool
     number_of_words(text, 32) < 32 && are_joined(text)
 }
 
-// Whether the three words are a condition.
-fn is_condition(left: &str, sign: &str, right: &str) -> bool
-    ensures { result ≡ is_some (condition_of left.now sign.now right.now) }
+// Whether the word is the name of the least or of the greatest sample.
+fn is_extreme(word: &str) -> bool
+    ensures { result ≡ is_an_extreme word.now }
 {
-    if !is_operand(left) {
+    word == "sample_least" || word == "sample_greatest"
+}
+
+// The decimal that a word is, which is no infinity.
+fn decimal(word: &str) -> Option<Amount>
+    ensures { result ≡ decimal_of word.now }
+{
+    if word == "-inf" {
+        return None;
+    }
+    Amount::of_decimal(word.as_bytes())
+}
+
+// Whether the word is read as a decimal: beside such a name in a file of floats, where it begins as
+// a number and is none of 128 bits.
+fn is_decimal_like(floats: Option<FloatFormat>, word: &str, other: &str) -> bool
+    ensures { result ≡ is_to_be_decimal floats word.now other.now }
+{
+    floats.is_some() && is_extreme(other) && is_number_like(word) && number(word).is_none()
+}
+
+// Whether the word is a side of a condition, beside the other one.
+fn is_side(floats: Option<FloatFormat>, word: &str, other: &str) -> bool
+    ensures { result ≡ is_some (side_of floats word.now other.now) }
+{
+    if is_decimal_like(floats, word, other) {
+        decimal(word).is_some()
+    } else {
+        is_operand(word)
+    }
+}
+
+// The side of a condition that the word is, beside the other one. Refused: S03, or E11 for a name.
+fn side(
+    alloc: Global,
+    floats: Option<FloatFormat>,
+    word: &str,
+    other: &str,
+) -> Result<Side, LineFault>
+    ensures { IsSideRead (side_of floats word.now other.now) result }
+{
+    if is_decimal_like(floats, word, other) {
+        match decimal(word) {
+            Some(amount) => Ok(Side::Decimal(amount)),
+            None => Err(LineFault::Number),
+        }
+    } else {
+        Ok(Side::Operand(operand(alloc, word)?))
+    }
+}
+
+// Whether the three words are a condition.
+fn is_condition(floats: Option<FloatFormat>, left: &str, sign: &str, right: &str) -> bool
+    ensures { result ≡ is_some (condition_of floats left.now sign.now right.now) }
+{
+    if !is_side(floats, left, right) {
         return false;
     }
     if comparison(sign).is_none() {
         return false;
     }
-    is_operand(right)
+    is_side(floats, right, left)
 }
 
-// The condition that the three words are. Takes memory. S03 where a word is no operand or no sign,
+// The condition that the three words are. Takes memory. S03 where a word is no side or no sign,
 // else E11.
-fn condition(alloc: Global, left: &str, sign: &str, right: &str) -> Result<Condition, LineFault>
-    ensures { IsConditionRead (condition_of left.now sign.now right.now) result }
+fn condition(
+    alloc: Global,
+    floats: Option<FloatFormat>,
+    left: &str,
+    sign: &str,
+    right: &str,
+) -> Result<Condition, LineFault>
+    ensures { IsConditionRead (condition_of floats left.now sign.now right.now) result }
 {
     let comparison = comparison(sign).ok_or(LineFault::Number)?;
     // S03 of any word comes before E11.
-    if !is_operand(right) {
+    if !is_side(floats, right, left) {
         return Err(LineFault::Number);
     }
-    let left = operand(alloc, left)?;
-    let right = operand(alloc, right)?;
+    let left_side = side(alloc, floats, left, right)?;
+    let right_side = side(alloc, floats, right, left)?;
     Ok(Condition {
-        left,
+        left: left_side,
         comparison,
-        right,
+        right: right_side,
     })
 }
 
 // Whether the words of the text are conditions, with a word between each two of them.
-fn are_conditions(text: &str) -> bool
-    ensures { result ≡ is_some (conditions_of (words_of text.now)) }
+fn are_conditions(floats: Option<FloatFormat>, text: &str) -> bool
+    ensures { result ≡ is_some (conditions_of floats (words_of text.now)) }
 {
     let mut words = Words::new(text);
     'words: while let Some((left, sign, right)) = words.next_three() {
-        if !is_condition(left, sign, right) {
+        if !is_condition(floats, left, sign, right) {
             return false;
         }
         match words.next() {
@@ -130,11 +194,11 @@ fn are_conditions(text: &str) -> bool
 }
 
 /// What is told where memory ran out in front of these conditions: S03 comes before E11.
-pub(crate) fn fault_without_memory(text: &str) -> LineFault
+pub(crate) fn fault_without_memory(floats: Option<FloatFormat>, text: &str) -> LineFault
     ensures { result ≡
-        if is_some (conditions_of (words_of text.now)) then no_memory else no_number }
+        if is_some (conditions_of floats (words_of text.now)) then no_memory else no_number }
 {
-    if are_conditions(text) {
+    if are_conditions(floats, text) {
         LineFault::OutOfMemory
     } else {
         LineFault::Number
@@ -143,17 +207,21 @@ pub(crate) fn fault_without_memory(text: &str) -> LineFault
 
 /// The conditions that the words of the text are, with a word between each two of them. Takes
 /// memory. S03 where one is none, else E11.
-pub(crate) fn conditions(alloc: Global, text: &str) -> Result<Items<Condition>, LineFault>
-    ensures { IsListRead (conditions_of (words_of text.now)) result }
+pub(crate) fn conditions(
+    alloc: Global,
+    floats: Option<FloatFormat>,
+    text: &str,
+) -> Result<Items<Condition>, LineFault>
+    ensures { IsListRead (conditions_of floats (words_of text.now)) result }
 {
     // S03 of any word comes before E11.
-    if !are_conditions(text) {
+    if !are_conditions(floats, text) {
         return Err(LineFault::Number);
     }
     let mut conditions = Vec::new(alloc);
     let mut words = Words::new(text);
     'words: while let Some((left, sign, right)) = words.next_three() {
-        let condition = condition(alloc, left, sign, right)?;
+        let condition = condition(alloc, floats, left, sign, right)?;
         if conditions.push(condition).is_err() {
             return Err(LineFault::OutOfMemory);
         }

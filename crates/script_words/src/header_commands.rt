@@ -18,29 +18,31 @@ use crate::ranges::{ranged, sort};
 use crate::report_commands::report;
 use crate::words::{Words, number_of_words};
 use bench_rules::{Field, Items, Query};
+use float_codes::FloatFormat;
 use std::alloc::Global;
 
 // The command of such a word and of the words behind it, or that of a report; S01 for any other.
 pub(crate) fn of_headers(
     alloc: Global,
+    floats: Option<FloatFormat>,
     traces: u32,
     word: &str,
     words: Words,
 ) -> Result<Command, LineFault>
-    ensures { IsRead (read_by (lookup (bytes_eq word.now) (header_commands traces))
+    ensures { IsRead (read_by (lookup (bytes_eq word.now) (header_commands floats traces))
         (words_of words.entry)) result }
 {
     match word {
-        "table" => ranged(alloc, traces, RangeCommand::Table, words),
-        "find" => ranged(alloc, traces, RangeCommand::Find, words),
-        "extremes" => ranged(alloc, traces, RangeCommand::Extremes, words),
-        "set" => ranged(alloc, traces, RangeCommand::Set, words),
-        "renumber" => ranged(alloc, traces, RangeCommand::Renumber, words),
-        "compute" => ranged(alloc, traces, RangeCommand::Compute, words),
-        "delete" => ranged(alloc, traces, RangeCommand::Delete, words),
-        "count" => ranged(alloc, traces, RangeCommand::Count, words),
-        "stats" => ranged(alloc, traces, RangeCommand::Stats, words),
-        "swap" => ranged(alloc, traces, RangeCommand::Swap, words),
+        "table" => ranged(alloc, floats, traces, RangeCommand::Table, words),
+        "find" => ranged(alloc, floats, traces, RangeCommand::Find, words),
+        "extremes" => ranged(alloc, floats, traces, RangeCommand::Extremes, words),
+        "set" => ranged(alloc, floats, traces, RangeCommand::Set, words),
+        "renumber" => ranged(alloc, floats, traces, RangeCommand::Renumber, words),
+        "compute" => ranged(alloc, floats, traces, RangeCommand::Compute, words),
+        "delete" => ranged(alloc, floats, traces, RangeCommand::Delete, words),
+        "count" => ranged(alloc, floats, traces, RangeCommand::Count, words),
+        "stats" => ranged(alloc, floats, traces, RangeCommand::Stats, words),
+        "swap" => ranged(alloc, floats, traces, RangeCommand::Swap, words),
         "sort" => sort(alloc, traces, words),
         "header" => header(traces, words),
         _ => report(traces, word, words),

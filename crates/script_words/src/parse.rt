@@ -78,12 +78,12 @@ fn command(
         "info" => query_alone(words, Query::Info),
         "sample" => sample(traces, words),
         "patch" => patch(alloc, floats, traces, words),
-        "fill" => ranged(alloc, traces, RangeCommand::Fill(floats), words),
+        "fill" => ranged(alloc, floats, traces, RangeCommand::Fill(floats), words),
         "blank" => blank(traces, words),
         "copy" => copy(traces, words),
         "move" => move_traces(traces, words),
         "resize" => resize(traces, words),
-        _ => of_headers(alloc, traces, word, words),
+        _ => of_headers(alloc, floats, traces, word, words),
     }
 }
 

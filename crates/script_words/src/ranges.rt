@@ -21,20 +21,23 @@ use crate::sort_command::sort_each;
 use crate::swap_command::swap_each;
 use crate::words::{Words, is_all, number_of_words};
 use bench_rules::{Items, Query};
+use float_codes::FloatFormat;
 use std::alloc::Global;
 
-/// The command, with conditions or without. Of the words in front of the conditions and of those
+/// The command, with conditions or without, which may have decimals where samples are floats, whose
+/// format comes first. Of the words in front of the conditions and of those
 /// of the conditions, wrong numbers of both come before what any of them is.
 pub(crate) fn ranged(
     alloc: Global,
+    floats: Option<FloatFormat>,
     traces: u32,
     which: RangeCommand,
     words: Words,
 ) -> Result<Command, LineFault>
-    ensures { IsRead (read_ranged traces which (words_of words.entry)) result }
+    ensures { IsRead (read_ranged floats traces which (words_of words.entry)) result }
 {
     match split_where(words.rest()) {
-        Some((front, behind)) => with_conditions(alloc, traces, which, front, behind),
+        Some((front, behind)) => with_conditions(alloc, floats, traces, which, front, behind),
         None => plain(alloc, traces, which, words),
     }
 }
@@ -43,12 +46,13 @@ pub(crate) fn ranged(
 // it.
 fn with_conditions(
     alloc: Global,
+    floats: Option<FloatFormat>,
     traces: u32,
     which: RangeCommand,
     front: &str,
     behind: &str,
 ) -> Result<Command, LineFault>
-    ensures { IsRead (of_conditions traces (read_each traces which)
+    ensures { IsRead (of_conditions floats traces (read_each traces which)
         (words_of front.now) (words_of behind.now)) result }
 {
     if !has_conditions(behind) {
@@ -56,10 +60,10 @@ fn with_conditions(
     }
     match each(alloc, traces, which, Words::new(front)) {
         Ok(command) => {
-            let conditions = conditions(alloc, behind)?;
+            let conditions = conditions(alloc, floats, behind)?;
             Ok(under(is_of_none(traces, front), conditions, command))
         }
-        Err(LineFault::OutOfMemory) => Err(fault_without_memory(behind)),
+        Err(LineFault::OutOfMemory) => Err(fault_without_memory(floats, behind)),
         Err(fault) => Err(fault),
     }
 }

@@ -32,6 +32,7 @@ pub(crate) fn report(traces: u32, word: &str, words: Words) -> Result<Command, L
         "slice" => slice(words),
         "faults" => query_alone(words, Query::Faults),
         "problems" => query_alone(words, Query::Problems),
+        "survey" => query_alone(words, Query::Survey),
         _ => Err(LineFault::Unknown),
     }
 }

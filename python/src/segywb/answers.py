@@ -36,6 +36,8 @@ MEANINGS: Dict[str, str] = {
     "S7": "inlines are missing between others",
     "S8": "crosslines are missing between others",
     "S9": "a few cells have another fold than nearly all",
+    "S10": "positions jump between neighbouring cells",
+    "S11": "cells stand where a cell before them does",
     "S12": "dead trace: all its samples have the same value",
     "S13": "loud trace: more than 100 times the amplitude of the others",
 }
@@ -346,6 +348,51 @@ def pairs(got: List[str], names: Tuple[str, ...]) -> List[str]:
     if tuple(got[0::2]) != names or len(got) != 2 * len(names):
         raise unexpected(" ".join(got))
     return got[1::2]
+
+
+class Lines(NamedTuple):
+    """The first and the last inline, or crossline, that are not far from the others, and the commonest step of all; ``None`` where there is one."""
+
+    first: int
+    last: int
+    step: Optional[int]
+
+
+class Survey(NamedTuple):
+    """The grid of a survey in one line: its lines, how far most cells stand, in x and y, from the one an inline or a crossline before them, ``None``
+    where there are none; how many cells there are, and how many a full grid has."""
+
+    inline: Lines
+    crossline: Lines
+    along_inline: Optional[Tuple[Fraction, Fraction]]
+    along_crossline: Optional[Tuple[Fraction, Fraction]]
+    cells: int
+    full: int
+
+
+_LINES = r"(-?\d+) (-?\d+) step (none|-?\d+)"
+_SURVEY = re.compile(
+    rf"survey inline {_LINES} crossline {_LINES} along_inline (none|\S+ \S+) along_crossline (none|\S+ \S+) cells (\d+) of (\d+)"
+)
+
+
+@strict
+def survey(line: str) -> Optional[Survey]:
+    """
+    >>> survey("survey none")
+    >>> told = survey("survey inline 7 7 step none crossline 3 9 step 2 along_inline none along_crossline 25/2 -1 cells 4 of 4")
+    >>> told.inline, told.crossline.step, told.along_inline, told.along_crossline, told.cells
+    (Lines(first=7, last=7, step=None), 2, None, (Fraction(25, 2), Fraction(-1, 1)), 4)
+    """
+    if words(line, "survey") == ["none"]:
+        return None
+    found = _SURVEY.fullmatch(line)
+    if not found:
+        raise unexpected(line)
+    got = found.groups()
+    inline, crossline = (Lines(int(one), int(two), None if step == "none" else int(step)) for one, two, step in (got[:3], got[3:6]))
+    along = [None if told == "none" else (Fraction(told.split()[0]), Fraction(told.split()[1])) for told in got[6:8]]
+    return Survey(inline, crossline, along[0], along[1], int(got[8]), int(got[9]))
 
 
 @strict

@@ -32,15 +32,19 @@ class Headers(Asked):
         """The number of traces, as ``len``; with ``where`` of those that meet its conditions.
 
         ``where`` is a text as in a script, ``A OP B`` with ``and`` between two, up to eight: A and B
-        are fields or whole numbers, OP is ``= != < <= > >=``. ``traces`` as for ``headers``, behind
-        ``where`` alone. Conditions that are none are a ``Refused``, an empty text or a line feed in
-        it is a ``ValueError``.
+        are fields, whole numbers, or one of ``sample_least``, ``sample_greatest`` (in a file of
+        floats beside a decimal too) and ``sample_count``; OP is ``= != < <= > >=``. ``traces`` as for
+        ``headers``, behind ``where`` alone. Conditions that are none are a ``Refused``, an empty text
+        or a line feed in it is a ``ValueError``.
 
         >>> with segywb.open("cube.sgy") as v:
         ...     v.count(), v.count(where="inline = 102 and crossline > 202")
         ...     v.count(traces=slice(1, 8), where="inline = 102")
         (12, 2)
         3
+        >>> with segywb.open("wrong_floats.sgy") as v:
+        ...     v.count(where="sample_least = sample_greatest"), v.count(where="sample_greatest > 1.5e3")
+        (1, 1)
         """
         if where is None:
             if traces is not None:

@@ -9,7 +9,8 @@ from .answers import MEANINGS, floating, strict, unexpected, words
 
 class ProblemRun(NamedTuple):
     """The traces ``first`` to ``last``, one after another, that have a problem with the same facts;
-    of S7 and S8 the first and the last line of a gap that is missing.
+    of S7 and S8 the first and the last line of a gap that is missing; of S10 and S11 two traces,
+    whose cells have positions that jump, or the same.
 
     The facts are numbers by their words, as ``{"scalar": 100, "usual": -100}``: whole ones, but for
     the ``value`` of S12 and the ``amount`` of S13 in a file of floats, which are floats."""
@@ -21,10 +22,11 @@ class ProblemRun(NamedTuple):
 
 class Problem(NamedTuple):
     """A problem of a file: its code, how many traces have it (``None`` where it is not of traces:
-    F7, F8, S7, S8, S9), in how many runs they stand, the first ten of these, the other numbers of
+    F7, F8, S7 to S11), in how many runs they stand, the first ten of these, the other numbers of
     its line, the whole text, and ``of``, how many traces the file has.
 
-    The runs of S7 and S8 are gaps, of inlines or crosslines that are missing."""
+    The runs of S7 and S8 are gaps, of inlines or crosslines that are missing, and those of S10 and
+    S11 pairs of cells."""
 
     code: str
     traces: Optional[int]
@@ -50,7 +52,8 @@ class Problem(NamedTuple):
 
         It is for you to say whether it is meant: the number that most traces have may be the wrong
         one. No line is named where that is the number of less than half of the traces, and none for
-        F1 where the traces may stand in another order than they were numbered in.
+        F1 where the traces may stand in another order than they were numbered in. That of S12 marks
+        the dead traces (trace identification code 2), and they are told all the same.
 
         >>> with segywb.open("missing.sgy") as v:
         ...     v.problems()[0].mend
@@ -63,7 +66,7 @@ class Problem(NamedTuple):
         if self.code in _USUAL and self.first_runs and not self.most:
             name, usual = _USUAL[self.code], self.first_runs[0].facts["usual"]
             return f"set all {name} {usual} where {name} != {usual}"
-        return None
+        return _DEAD if self.code == "S12" else None
 
     @property
     def most(self) -> bool:
@@ -92,7 +95,8 @@ class Problem(NamedTuple):
     @property
     def how_many(self) -> int:
         """How many have it: traces, or lines of the textual header (F8), lines of the survey that
-        are missing (S7, S8) or cells of another fold (S9); 1 for the binary header (F7).
+        are missing (S7, S8), cells of another fold (S9), pairs of cells that jump (S10) or cells that
+        share a position (S11); 1 for the binary header (F7).
 
         >>> with segywb.open("missing.sgy") as v:
         ...     v.problems()[0].how_many
@@ -102,11 +106,15 @@ class Problem(NamedTuple):
             return self.traces
         if self.code == "S9":
             return self.facts["less"] + self.facts["more"]
+        if self.code in _COUNTED:
+            return self.runs
         return self.facts.get("lines", self.facts.get("missing", 1))
 
 
 # the facts that tell of samples
 _SAMPLES = ("value", "amount")
+# marks the dead traces; one sample alone makes none
+_DEAD = "set all trace_code 2 where sample_least = sample_greatest and sample_count > 1"
 # the codes that one number mends, that of most traces, and the field that it is written to
 _USUAL = {"S3": "scalar", "S4": "delay"}
 # the words behind the code: those of a problem without runs stand here, and those of S7 and S8
@@ -117,7 +125,11 @@ _PLAIN = {
     "S7": ["missing", "runs"],
     "S8": ["missing", "runs"],
     "S9": ["cells", "usual", "less", "more", "least", "greatest"],
+    "S10": ["pairs", "jumps"],
+    "S11": ["cells"],
 }
+# the word of the number that says how many lines there are, where that is not `runs`
+_COUNTED = {"S10": "jumps", "S11": "cells"}
 
 
 def _numbers(got: List[str]) -> Dict[str, int]:
@@ -130,12 +142,12 @@ def _numbers(got: List[str]) -> Dict[str, int]:
     return {word: int(number) for word, number in zip(got[0::2], got[1::2])}
 
 
-def _run(line: str, samples: str = "i8") -> ProblemRun:
+def _run(line: str, samples: str = "i8", begins: str = "run") -> ProblemRun:
     """
     >>> _run("run 2 3 before 1"), _run("run 5 6 value -2.5", "f8")
     (ProblemRun(first=2, last=3, facts={'before': 1}), ProblemRun(first=5, last=6, facts={'value': -2.5}))
     """
-    first, last, *facts = words(line, "run")
+    first, last, *facts = words(line, begins)
     if samples.startswith("f") and facts and facts[0] in _SAMPLES:
         word, value = facts
         return ProblemRun(int(first), int(last), {word: floating(value, samples == "f4")})
@@ -146,14 +158,18 @@ def _problem(lines: List[str], of: Optional[int] = None, samples: str = "i8") ->
     """
     >>> _problem(["problem S7 missing 3 runs 1", "run 103 107 step 2"]).first_runs[0].facts
     {'step': 2}
+    >>> jumps = _problem(["problem S10 pairs 9 jumps 1", "jump 2 3"])
+    >>> jumps.how_many, jumps.first_runs, jumps.facts
+    (1, [ProblemRun(first=2, last=3, facts={})], {'pairs': 9, 'jumps': 1})
     """
     code, *got = words(lines[0], "problem")
     facts = _numbers(got)
     if list(facts) != _PLAIN.get(code, ["traces", "runs"]):
         raise unexpected(lines[0])
-    runs = facts.pop("runs", 0)
+    runs = facts[_COUNTED[code]] if code in _COUNTED else facts.pop("runs", 0)
     traces = None if code == "F7" else facts.pop("traces", None)
-    told = [_run(line, samples) for line in lines[1:]]
+    begins = "jump" if code == "S10" else "run"
+    told = [_run(line, samples, begins) for line in lines[1:]]
     if len(told) != min(runs, 10):
         raise unexpected(lines[0])
     return Problem(code, traces, runs, told, facts, "\n".join(lines), of)

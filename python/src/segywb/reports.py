@@ -123,6 +123,15 @@ class Reports(Contents):
         """
         return self._counts("histogram", "histogram", "times")
 
+    def survey(self) -> Optional[answers.Survey]:
+        """The grid of the survey in one line, exactly; ``None`` without traces. ``fit`` tells the grid that fits best.
+
+        >>> with segywb.open("cube.sgy") as v:
+        ...     v.survey().crossline, v.survey().along_crossline
+        (Lines(first=201, last=204, step=1), (Fraction(25, 1), Fraction(0, 1)))
+        """
+        return answers.survey(self._one("survey"))
+
     def slice(self, sample: int) -> Slice:
         """A sample of each trace that has it.
 

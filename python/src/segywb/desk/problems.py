@@ -2,6 +2,7 @@
 
 from __future__ import annotations
 
+from decimal import Decimal
 from typing import Any, Dict, List, Optional, Tuple
 
 from ..problems import Problem, ProblemRun
@@ -120,7 +121,24 @@ def line_of(one: Problem, volume: Volume) -> Optional[str]:
         return f"delete {span}" if _stands_twice(run, volume) else None
     if one.code in ("F3", "F5"):
         return _interval(one) if one.code == "F3" else _units(one)
-    return {"F9": f"set {span} @233:8 0", "S12": f"set {span} trace_code 2"}.get(one.code)
+    if one.code == "S13":
+        return _loud(one, volume)
+    return f"set {span} @233:8 0" if one.code == "F9" else None
+
+
+def _loud(one: Problem, volume: Volume) -> Optional[str]:
+    """S13: mutes the loud traces of a fixed file, where all runs are told and the first digit of the
+    least of their amounts is one above all other traces, to the one side or to the other."""
+    amount = min(run.facts["amount"] for run in one.first_runs)
+    if one.runs > len(one.first_runs) or not volume.info.fixed or amount == float("inf"):
+        return None
+    digit, _, power = f"{Decimal(amount):e}".partition("e")
+    least = f"{digit[0]}{'0' * int(power)}" if 0 <= int(power) < 7 else f"{digit[0]}e{int(power)}"
+    least = least if volume.has_floats else str(int(Decimal(least)))
+    for where in (f"sample_greatest >= {least}", f"sample_least <= -{least}"):
+        if volume.count(where=where) == one.traces:
+            return f"fill all 0 {volume.info.samples - 1} 0 where {where}"
+    return None
 
 
 def _facts(facts: Dict[str, Any]) -> str:
@@ -174,6 +192,9 @@ def where(one: Problem, run: ProblemRun) -> Dict[str, Any]:
     >>> where(Problem("F6", 4, 1, [run], {}, ""), run)
     {'text': 'traces 5 to 8: before 4', 'trace': 5, 'last': 8, 'gap': None}
     """
+    if one.code in ("S10", "S11"):
+        text = f"traces {run.first} and {run.last}"
+        return {"text": text, "trace": run.first, "last": run.first, "gap": None}
     noun = _NOUNS.get(one.code, "trace")
     span = f"{noun} {run.first}" if run.first == run.last else f"{noun}s {run.first} to {run.last}"
     text = ": ".join([span, *([_facts(run.facts)] if run.facts else [])])

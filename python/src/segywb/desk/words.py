@@ -25,10 +25,13 @@ def words() -> Dict[str, Any]:
 
     >>> [one["usage"] for one in words()["commands"] if one["word"] == "set"]
     ['set P [Q] FIELD NUMBER [where A OP B ..]']
+    >>> [one["name"] for one in words()["facts"]]
+    ['sample_least', 'sample_greatest', 'sample_count']
     """
     return {
         "commands": [{"word": usage.split()[0], "usage": usage, "told": told} for usage, told in rows("command")],
         "names": [{"name": name, "place": place, "told": told} for name, place, told in rows("name")],
+        "facts": [{"name": name, "told": told} for name, told in rows("fact")],
         "binary": [{"name": name, "place": place, "told": told} for name, place, told in rows("binary")],
         "refusals": [{"code": code, "text": text, "when": when, "do": do} for code, text, when, do in rows("refusal")],
         "faults": {code: {"text": text, "when": when, "do": do} for code, text, when, do in rows("fault")},

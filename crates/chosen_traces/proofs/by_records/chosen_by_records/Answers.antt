@@ -30,7 +30,7 @@ loop-k-preserved c =
     record {
       chosen = λ fields conditions tests beside.
           go_on c.args.overlay.now.volume conditions c.args.a c.args.b c.loop-k.k c.hold.result c.loop-k.traces.items c.keep.new.traces.items (omega (arith, c.loop-k-test.true, c.requires.range))
-          (ap Some c.hold.ensures ∙ met c.args.overlay.now fields beside conditions c.args.tests.now place (c.args.a + c.loop-k.k) c.in-Some.record tests here next) kept (i.chosen fields conditions tests beside);
+          (ap Some c.hold.ensures ∙ met c.args.overlay.now fields beside conditions c.args.tests.now c.has_float_samples-floats.result place (c.args.a + c.loop-k.k) c.in-Some.record c.has_float_samples-floats.ensures tests here next) kept (i.chosen fields conditions tests beside);
       rising = still_rise c.args.a c.loop-k.k c.hold.result c.loop-k.traces.items c.keep.new.traces.items c.requires.first kept i.rising;
       left = λ walks.
           c.record_at.ensures.left walks ∙ ap (λ (rs : List Record). drop (place + 1) rs) all ∙ ap (λ (n : ℕ). drop n (map record_in c.args.overlay.now.payloads)) behind;

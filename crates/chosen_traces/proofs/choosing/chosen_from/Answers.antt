@@ -1,9 +1,15 @@
-use Rattle.std.proofs.Common.{◌≡◌, ◌∙◌, ◌+◌, None, Some, inr, refl, sym, subst, arith}
-use Rattle.frame_cut.specs.Traces.{trace_at}
+use Rattle.std.proofs.Common.{◌≡◌, ◌∙◌, ℕ, ◌+◌, ◌-◌, ◌<◌, List, Option, None, Some, inr, refl, sym, ap, subst, arith}
+use Rattle.frame_cut.specs.Traces.{count_of, trace_at}
 use Rattle.frame_cut.specs.Volume.{Volume}
-use Rattle.bench_rules.specs.Conditions.{meets}
+use Rattle.trace_record.specs.declared.amplitudes.Amplitudes.{Amplitudes}
+use Rattle.trace_record.specs.declared.packed_record.PackedRecord.{PackedRecord}
+use Rattle.bench_rules.specs.Conditions.{meets_by}
+use Rattle.bench_rules.specs.SampleFacts.{amplitudes_at}
+use Rattle.bench_rules.proofs.LackLemmas.{lacks_whatever}
 use Rattle.bench_rules.proofs.LookLemmas.{seen_after}
+use Rattle.chosen_traces.specs.RecordTests.{amplitudes_beside}
 use Rattle.chosen_traces.proofs.ChoosingLemmas.{go_on, lacks, still_rise}
+use Rattle.chosen_traces.proofs.RecordLemmas.{amplitudes_there}
 use Rattle.chosen_traces.proofs.choosing.chosen_from.Goals as goal
 
 pub returns-in_default-clause-err : goal.returns-in_default-clause-err
@@ -13,8 +19,11 @@ returns-in_default-clause-err c = inr (inr (
       let i = c.loop-k.invariant in
       let made = c.in_ok-is_chosen.ensures in
       let told = sym c.in_default.is ∙ made.told sure in
-      lacks c.args.overlay.now.volume c.args.tests.now c.args.a c.args.b c.loop-k.k c.loop-k.traces.items (omega (arith, c.loop-k-test.true, c.requires.range))
-      (subst (λ (u : Volume). None ≡ meets u.head (trace_at u (c.args.a + c.loop-k.k)) c.args.tests.now) i.seen.volume told) (i.chosen (made.seen.agreed sure)),
+      let v : Volume = c.args.overlay.now.volume in
+      let p : ℕ = c.args.a + c.loop-k.k in
+      let said = subst (λ (u : Volume). None ≡ meets_by u.head (trace_at u p) (amplitudes_beside c.loop-k.overlay.payloads p) c.args.tests.now) i.seen.volume told in
+      lacks v c.args.tests.now c.args.a c.args.b c.loop-k.k (omega (arith, c.loop-k-test.true, c.requires.range))
+      (lacks_whatever v.head (trace_at v p) (amplitudes_beside c.loop-k.overlay.payloads p) (amplitudes_at v.head (trace_at v p)) c.args.tests.now (sym said)),
 ))
 
 pub loop-k-preserved : goal.loop-k-preserved
@@ -22,10 +31,17 @@ loop-k-preserved c =
     let i = c.loop-k.invariant in
     let made = c.in_ok-is_chosen.ensures in
     let kept = c.in_ok-keep.ensures in
+    let v : Volume = c.args.overlay.now.volume in
+    let p : ℕ = c.args.a + c.loop-k.k in
     record {
-      chosen = λ sure.
+      chosen = λ fields sure beside.
           let told = sym c.in-Some.is ∙ made.told sure in
-          go_on c.args.overlay.now.volume c.args.tests.now c.args.a c.args.b c.loop-k.k c.in-Some.is_chosen c.loop-k.traces.items c.keep.new.traces.items (omega (arith, c.loop-k-test.true, c.requires.range)) (subst (λ (u : Volume). Some c.in-Some.is_chosen ≡ meets u.head (trace_at u (c.args.a + c.loop-k.k)) c.args.tests.now) i.seen.volume told) kept (i.chosen (made.seen.agreed sure));
+          let there : p - 1 < count_of v = omega (arith, c.loop-k-test.true, c.requires.first, c.requires.range, c.requires.last) in
+          let said = subst (λ (u : Volume). Some c.in-Some.is_chosen ≡ meets_by u.head (trace_at u p) (amplitudes_beside c.loop-k.overlay.payloads p) c.args.tests.now) i.seen.volume told in
+          let same : amplitudes_beside c.loop-k.overlay.payloads p ≡ amplitudes_at v.head (trace_at v p) =
+          ap (λ (ps : List PackedRecord). amplitudes_beside ps p) i.seen.payloads ∙ amplitudes_there c.args.overlay.now fields beside p there in
+          go_on v c.args.tests.now c.args.a c.args.b c.loop-k.k c.in-Some.is_chosen c.loop-k.traces.items c.keep.new.traces.items (omega (arith, c.loop-k-test.true, c.requires.range))
+          (said ∙ ap (λ (all : Option Amplitudes). meets_by v.head (trace_at v p) all c.args.tests.now) same) kept (i.chosen fields (made.seen.agreed sure) beside);
       rising = still_rise c.args.a c.loop-k.k c.in-Some.is_chosen c.loop-k.traces.items c.keep.new.traces.items c.requires.first kept i.rising;
       seen = seen_after c.args.overlay.now c.loop-k.overlay c.judged.new.overlay c.loop-k.k 1 i.seen made.seen;
     }

@@ -1,6 +1,7 @@
 use Rattle.std.proofs.Common.{◌≡◌, ℕ, List, drop}
 use Rattle.std.specs.List.{list_all}
 use Rattle.frame_cut.specs.declared.file_head.Head.{Head}
+use Rattle.trace_view.specs.Values.{has_floats}
 use Rattle.trace_record.specs.OfTrace.{record_of}
 use Rattle.bench_rules.specs.Conditions.{meets, test_in}
 use Rattle.bench_rules.specs.ManyTraces.{each_of}
@@ -13,5 +14,5 @@ use Rattle.chosen_traces.proofs.record_tests.record_tests.Given as goal
 abbrev pub invariant-loop-test : goal.invariant-loop-test
 invariant-loop-test l = record {
   exact : list_all (tells_test l.map.pairs) l.tests ≡ list_all (tells_test l.map.pairs) (drop l.test-index l.tests);
-  tests : (h : Head) (t : List ℕ) → meets h t l.tests ≡ said (hold (record_of h l.map.pairs t) l.told.items) (each_of (test_in h t) (drop l.test-index l.tests));
+  tests : (h : Head) (t : List ℕ) → meets h t l.tests ≡ said (hold (has_floats h) (record_of h l.map.pairs t) l.told.items) (each_of (test_in h t) (drop l.test-index l.tests));
 }

@@ -23,7 +23,7 @@ returns-clause-ok c =
     let records : c.new-records.result ≡ map record_in c.args.overlay.now.payloads = c.new-records.ensures ∙ ap (λ (ps : List PackedRecord). map record_in ps) c.payloads.ensures in
     let head : c.head_facts-head.result ≡ head_facts v = c.head_facts-head.ensures
     ∙ same_headers v c.head.result c.text.result.now c.bin.result.now c.head.ensures c.text.ensures c.bin.ensures in
-    subst (λ (h : HeadFacts). IfOk c.problem_lines.result (λ lines. lines.items ≡ problems_with h (map facts_of (map record_in c.args.overlay.now.payloads)) c.args.delays.now (has_floats v.head))) head
-    (subst (λ (rs : List Record). IfOk c.problem_lines.result (λ lines. lines.items ≡ problems_with c.head_facts-head.result (map facts_of rs) c.args.delays.now (has_floats v.head))) records
-    (subst (λ (b : Bool). IfOk c.problem_lines.result (λ lines. lines.items ≡ problems_with c.head_facts-head.result (map facts_of c.new-records.result) c.args.delays.now b)) c.has_float_samples-floats.ensures
+    subst (λ (h : HeadFacts). IfOk c.problem_lines.result (λ lines. lines.items ≡ problems_with h (map facts_of (map record_in c.args.overlay.now.payloads)) c.args.delays.now c.args.shots (has_floats v.head))) head
+    (subst (λ (rs : List Record). IfOk c.problem_lines.result (λ lines. lines.items ≡ problems_with c.head_facts-head.result (map facts_of rs) c.args.delays.now c.args.shots (has_floats v.head))) records
+    (subst (λ (b : Bool). IfOk c.problem_lines.result (λ lines. lines.items ≡ problems_with c.head_facts-head.result (map facts_of c.new-records.result) c.args.delays.now c.args.shots b)) c.has_float_samples-floats.ensures
     c.problem_lines.ensures.ok))

@@ -8,7 +8,7 @@ use Rattle.grid_live.specs.declared.line.Line.{Line}
 use Rattle.line_problems.specs.LineProblems.{no_survey_of}
 use Rattle.line_problems.specs.declared.survey_numbers.NoSurvey.{NoSurvey}
 use Rattle.bench_rules.specs.declared.problem_line.ProblemLine.{ProblemLine}
-use Rattle.bench_rules.specs.Problems.{fault_problems, no_survey_lines, survey_problems, value_problems}
+use Rattle.bench_rules.specs.Problems.{fault_problems, no_survey_lines, position_problems, survey_problems, value_problems}
 use Rattle.problem_answers.proofs.LineLemmas.{all_lines}
 use Rattle.problem_answers.proofs.SurveyLemmas.{crosslines_are, inlines_are}
 use Rattle.problem_answers.proofs.answers.problem_lines.Goals as goal
@@ -43,5 +43,7 @@ returns-clause-ok c =
     ∙ ap (λ (b : Bool). c.push_no_survey.new.lines.items ++ value_problems fs delays b) (c.is_some-2.ensures ∙ ap (λ (o : Option NoSurvey). is_some o) is) in
     let four : c.push_of_survey.new.lines.items ≡ c.push_of_headers.new.lines.items ++ fourth = c.in_ok-push_of_survey.ensures.ok
     ∙ ap (λ (b : Bool). c.push_of_headers.new.lines.items ++ (if b then [] else survey_problems fs)) (c.is_some-3.ensures ∙ ap (λ (o : Option NoSurvey). is_some o) is) in
-    all_lines c.args.head.now fs delays c.args.floats c.new-lines.result.items c.push_faults.new.lines.items c.push_no_survey.new.lines.items c.push_of_headers.new.lines.items c.push_of_survey.new.lines.items c.push_of_samples.new.lines.items
-    c.new-lines.ensures.items one two three four c.in_ok-push_of_samples.ensures.ok
+    let five : c.push_of_positions.new.lines.items ≡ c.push_of_survey.new.lines.items ++ (if is_some lone then [] else position_problems c.args.shots fs) = c.in_ok-push_of_positions.ensures.ok
+    ∙ ap (λ (b : Bool). c.push_of_survey.new.lines.items ++ (if b then [] else position_problems c.args.shots fs)) (c.is_some-4.ensures ∙ ap (λ (o : Option NoSurvey). is_some o) is) in
+    all_lines c.args.head.now fs delays c.args.shots c.args.floats c.new-lines.result.items c.push_faults.new.lines.items c.push_no_survey.new.lines.items c.push_of_headers.new.lines.items c.push_of_survey.new.lines.items c.push_of_positions.new.lines.items c.push_of_samples.new.lines.items
+    c.new-lines.ensures.items one two three four five c.in_ok-push_of_samples.ensures.ok

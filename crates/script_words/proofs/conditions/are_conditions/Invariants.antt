@@ -5,7 +5,7 @@ use Rattle.script_words.proofs.conditions.are_conditions.Given as goal
 
 -- whether all words are conditions is whether those left are
 abbrev pub invariant-words : goal.invariant-words
-invariant-words l = is_some (conditions_of (words_of l.words)) ≡ is_some (conditions_of (words_of l.initial.words))
+invariant-words l = is_some (conditions_of l.floats (words_of l.words)) ≡ is_some (conditions_of l.floats (words_of l.initial.words))
 
 abbrev pub decreases-words : goal.decreases-words
 decreases-words l = length (words_of l.words)

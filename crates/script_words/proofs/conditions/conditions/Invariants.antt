@@ -5,7 +5,7 @@ use Rattle.script_words.proofs.conditions.conditions.Given as goal
 
 -- the conditions of all words are those that are read, and then those of the words left
 abbrev pub invariant-words : goal.invariant-words
-invariant-words l = conditions_of (words_of l.initial.words) ≡ option_map (λ ys. l.conditions.items ++ ys) (conditions_of (words_of l.words))
+invariant-words l = conditions_of l.floats (words_of l.initial.words) ≡ option_map (λ ys. l.conditions.items ++ ys) (conditions_of l.floats (words_of l.words))
 
 abbrev pub decreases-words : goal.decreases-words
 decreases-words l = length (words_of l.words)

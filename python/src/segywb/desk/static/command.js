@@ -89,7 +89,7 @@ function kindAt(words, index) {
   if (index === 0) return "COMMAND";
   const command = store.words.commands.find((one) => one.word === words[0]);
   const where = words.indexOf("where");
-  if (where > 1 && index > where) return (index - where) % 2 ? "FIELD" : "OP"; // A OP B and A OP B ..
+  if (where > 1 && index > where) return (index - where) % 2 ? "SIDE" : "OP"; // A OP B and A OP B ..
   const wanted = command ? command.usage.replace(/ \[[^\]]*where .*$/, "").split(" ") : [];
   const single = wanted[2] === "[Q]" && index > 1 && !/^(\d+|last)$/.test(words[2]); // P alone, and what follows it
   const shift = single || (words[1] === "all" && index > 1) ? 1 : 0; // `all` stands for P and Q
@@ -99,11 +99,12 @@ function kindAt(words, index) {
 }
 
 function candidates(kind) {
-  const { commands, names, binary } = store.words;
+  const { commands, names, binary, facts } = store.words;
   const bound = Object.entries(store.bound).filter(([name]) => !names.some((one) => one.name === name)).map(([name, place]) => ({ word: name, what: place }));
   const named = names.map((one) => ({ word: one.name, what: one.told }));
   if (kind === "COMMAND") return commands.map((one) => ({ word: one.word, what: one.usage }));
   if (kind === "FIELD") return [...bound, ...named];
+  if (kind === "SIDE") return [...bound, ...named, ...facts.map((one) => ({ word: one.name, what: one.told }))];
   if (kind === "NAME") return bound;
   if (kind === "PLACE") return [...Object.entries(store.bound).map(([name, place]) => ({ word: place, what: name })), ...names.map((one) => ({ word: one.place, what: one.told }))];
   if (kind === "BINARY") return binary.map((one) => ({ word: one.name, what: one.told }));

@@ -85,7 +85,13 @@ pub returns-in-Problems-clause-reply : goal.returns-in-Problems-clause-reply
 returns-in-Problems-clause-reply c = λ sure.
     let before : IsTrue c.self.inside.overlay.agreed = c.problems_answer.ensures.seen.agreed sure in
     let records : AreRecordsOf c.args.self.now.state (records_in c.self.inside) = rw (← c.self.view_is) (c.self.invariant.records before) in
-    subst (λ (q : Query). IsReply c.args.self.now.state q c.problems_answer.result) (sym c.in-Problems.is) (c.problems_answer.ensures.reply c.args.self.now.state (sym (ap (λ (t : Session). t.state.volume) c.self.view_is)) (sym (ap (λ (t : Session). t.state.on_disk) c.self.view_is)) sure records)
+    subst (λ (q : Query). IsReply c.args.self.now.state q c.problems_answer.result) (sym c.in-Problems.is) (c.problems_answer.ensures.reply c.args.self.now.state (sym (ap (λ (t : Session). t.state.volume) c.self.view_is)) (sym (ap (λ (t : Session). t.state.fields) c.self.view_is)) (sym (ap (λ (t : Session). t.state.on_disk) c.self.view_is)) sure records)
+
+pub returns-in-Survey-clause-reply : goal.returns-in-Survey-clause-reply
+returns-in-Survey-clause-reply c = λ sure.
+    let before : IsTrue c.self.inside.overlay.agreed = subst (λ (t : Session). IsTrue t.agreed) (sym c.self.view_is) sure in
+    let records : AreRecordsOf c.args.self.now.state (records_in c.self.inside) = rw (← c.self.view_is) (c.self.invariant.records before) in
+    subst (λ (q : Query). IsReply c.args.self.now.state q c.survey_answer.result) (sym c.in-Survey.is) (c.survey_answer.ensures c.args.self.now.state records)
 
 pub invariant_of-self-in-Problems : goal.invariant_of-self-in-Problems
 invariant_of-self-in-Problems c = held_again c.self.inside c.problems_answer.new.overlay _ c.problems_answer.ensures.seen c.self.invariant

@@ -268,7 +268,7 @@ def test_an_edit_wants_memory_to_be_read_alone(growths, done, refused, place):
 
 # each command that may want memory does
 WANTING = [
-    "set 2 inline 11", "renumber 1 3 inline 70 1", "patch 1 0 32767 -32768", "resize 1 4", "blank 1", "copy 1 2", "move 2 3 1",
+    "set 2 inline 11", "renumber 1 3 inline 70 1", "patch 1 0 32767 -32768", "resize 1 70000", "blank 1", "copy 1 2", "move 2 3 1",
     "map mine @17:4", "bin interval 2000", "getbin interval", "get 1 inline", "text 1 NO C", "unmap mine", "line 0 1", "stanzas", "fields",
     "grid", "inlines", "crosslines", "histogram", "survey", "slice 1", "faults", "problems", "count all where inline = 10",
     "table 1 2 inline x @189:4", "find 1 2 crossline 21 22", "header 2", "extremes 1 2", "lines 0", "compute 1 3 inline crossline * 2 + 7",
@@ -279,7 +279,8 @@ WANTING = [
 @PLACES
 @pytest.mark.parametrize("line", WANTING)
 def test_was_refused_for_want_of_memory(growths, line, place):
-    made = content("ended.sgy") if line == "stanzas" else SURVEY
+    # a trace that is long enough to want memory of its own
+    made = {"stanzas": content("ended.sgy"), "resize 1 70000": DEEP}.get(line, SURVEY)
     # where nothing is wrong faults has no list
     first = "bin interval 2000" if line == "faults" else "map mine @9:4"
     assert refused_times(growths(place), made, [first, line]) > 0

@@ -320,6 +320,12 @@ def test_lines_that_mend(tmp_path, edits, code, line):
     ("patch 4 0 7 7 7 7 7\npatch 9 0 0 0 0 0 0", "S12", "set all trace_code 2 where sample_least = sample_greatest and sample_count > 1", 2),
     ("patch 4 2 30001\npatch 9 0 20500", "S13", "fill all 0 4 0 where sample_greatest >= 20000", 2),
     ("patch 4 2 -30001", "S13", "fill all 0 4 0 where sample_least <= -30000", 1), ("patch 4 2 -30001\npatch 9 0 20500", "S13", None, 2),
+    # as many traces meet the condition, 1 and 3, as are told, 1 and 2
+    ("fill all 0 4 0\nfill all 0 0 28\npatch 1 1 2900\npatch 2 1 -2900\npatch 3 1 2500", "S13", None, 2),
+    # in two runs
+    ("fill all 0 4 0\nfill all 0 0 28\npatch 1 1 2900\npatch 4 1 -2900\npatch 3 1 2500", "S13", None, 2),
+    # eleven runs, of which ten are told
+    ("delete 2\n" + "copy 11 11\n" * 30 + "\n".join(f"patch {n} 2 30001" for n in range(1, 22, 2)), "S13", None, 11),
 ])
 def test_lines_for_dead_and_loud_traces(tmp_path, edits, code, line, told):
     """They are of the traces that are told, and of no others; which ones they are is asked of what the program keeps beside each trace."""

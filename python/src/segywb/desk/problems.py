@@ -126,17 +126,23 @@ def line_of(one: Problem, volume: Volume) -> Optional[str]:
     return f"set {span} @233:8 0" if one.code == "F9" else None
 
 
+def _alone(one: Problem, where: str, volume: Volume) -> bool:
+    """Whether the conditions choose the traces that have the problem, each of them and no other: as
+    many may meet them that are others. It is not where runs are not told: their traces are missing."""
+    return volume.count(where=where) == one.traces == sum(volume.count(range(run.first, run.last + 1), where) for run in one.first_runs)
+
+
 def _loud(one: Problem, volume: Volume) -> Optional[str]:
-    """S13: mutes the loud traces of a fixed file, where all runs are told and the first digit of the
-    least of their amounts is one above all other traces, to the one side or to the other."""
+    """S13: mutes the loud traces of a fixed file, where the first digit of the least of their amounts
+    is one above all other traces, to the one side or to the other."""
     amount = min(run.facts["amount"] for run in one.first_runs)
-    if one.runs > len(one.first_runs) or not volume.info.fixed or amount == float("inf"):
+    if not volume.info.fixed or amount == float("inf"):
         return None
     digit, _, power = f"{Decimal(amount):e}".partition("e")
     least = f"{digit[0]}{'0' * int(power)}" if 0 <= int(power) < 7 else f"{digit[0]}e{int(power)}"
     least = least if volume.has_floats else str(int(Decimal(least)))
     for where in (f"sample_greatest >= {least}", f"sample_least <= -{least}"):
-        if volume.count(where=where) == one.traces:
+        if _alone(one, where, volume):
             return f"fill all 0 {volume.info.samples - 1} 0 where {where}"
     return None
 

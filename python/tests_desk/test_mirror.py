@@ -347,6 +347,22 @@ def test_a_line_for_a_loud_trace_of_floats(tmp_path):
     assert lines_for(path, "patch 6 2 inf")["S13"] is None
 
 
+def test_a_line_for_dead_traces_of_floats(tmp_path):
+    """None of the group where it would mark a trace that is not told, since it has one number alone; the lines of the runs stay."""
+    line = "set all trace_code 2 where sample_least = sample_greatest and sample_count > 1"
+    path = shutil.copy(TOP / "examples" / "wrong_floats.sgy", tmp_path)
+    assert lines_for(path, "")["S12"] == lines_for(path, "patch 1 0 5 5 nan nan nan\npatch 9 0 -0.0 0 0 nan nan")["S12"] == line
+    assert lines_for(path, "patch 1 0 nan nan nan nan nan\npatch 9 0 inf inf inf inf inf")["S12"] == line
+    # more runs than are told: all that have it are counted
+    assert lines_for(path, "\n".join(f"fill {n} {n} 0 4 {n}" for n in range(1, 12)))["S12"] == line
+    assert lines_for(path, "patch 2 0 nan 5 nan nan nan")["S12"] is None
+    with segywb.open(path) as volume:
+        volume.patch(2, 0, [float("nan"), 5.0, *[float("nan")] * 3])
+        assert volume.run(line)[0].chosen == 2
+        (found,) = [one for one in volume.problems() if one.code == "S12"]
+        assert found.traces == 1 and [one["lines"] for one in problems.shown(found, volume)["first"]] == [["set 3 trace_code 2"]]
+
+
 def test_a_number_of_samples_that_does_not_fit(tmp_path):
     """Bytes 115-116 cannot tell it: they tell none then."""
     head = files.binary(samples=0, form=8, major=2, at3269=(4, 70000))

@@ -53,7 +53,8 @@ class Problem(NamedTuple):
         It is for you to say whether it is meant: the number that most traces have may be the wrong
         one. No line is named where that is the number of less than half of the traces, and none for
         F1 where the traces may stand in another order than they were numbered in. That of S12 marks
-        the dead traces (trace identification code 2), and they are told all the same.
+        the dead traces (trace identification code 2), and they are told all the same; of floats it
+        also marks a trace that has one number alone beside samples that are none, which is not told.
 
         >>> with segywb.open("missing.sgy") as v:
         ...     v.problems()[0].mend
@@ -66,7 +67,7 @@ class Problem(NamedTuple):
         if self.code in _USUAL and self.first_runs and not self.most:
             name, usual = _USUAL[self.code], self.first_runs[0].facts["usual"]
             return f"set all {name} {usual} where {name} != {usual}"
-        return _DEAD if self.code == "S12" else None
+        return f"set all trace_code 2 where {DEAD}" if self.code == "S12" else None
 
     @property
     def most(self) -> bool:
@@ -113,8 +114,8 @@ class Problem(NamedTuple):
 
 # the facts that tell of samples
 _SAMPLES = ("value", "amount")
-# marks the dead traces; one sample alone makes none
-_DEAD = "set all trace_code 2 where sample_least = sample_greatest and sample_count > 1"
+# each dead trace meets these, and of floats one that has a number alone beside samples that are none
+DEAD = "sample_least = sample_greatest and sample_count > 1"
 # the codes that one number mends, that of most traces, and the field that it is written to
 _USUAL = {"S3": "scalar", "S4": "delay"}
 # the words behind the code: those of a problem without runs stand here, and those of S7 and S8

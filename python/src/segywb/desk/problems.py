@@ -5,7 +5,7 @@ from __future__ import annotations
 from decimal import Decimal
 from typing import Any, Dict, List, Optional, Tuple
 
-from ..problems import Problem, ProblemRun
+from ..problems import DEAD, Problem, ProblemRun
 from ..volume import Volume
 
 # how the line begins that is finished by hand, of the first run and of the file
@@ -104,7 +104,10 @@ def _elsewhere(volume: Volume) -> Optional[str]:
 
 def line_of(one: Problem, volume: Volume) -> Optional[str]:
     """The line that may mend it, or how the line begins that mends its first run; to be looked at,
-    and run by hand. Traces are deleted by none that have samples or positions of their own."""
+    and run by hand. Traces are deleted by none that have samples or positions of their own, and none
+    is marked as dead (S12) that is not told: all that are told meet its conditions, so a count tells."""
+    if one.code == "S12" and volume.count(where=DEAD) != one.traces:
+        return None
     if one.mend or one.code == "F8":
         return one.mend or "text "
     if one.code == "S1":

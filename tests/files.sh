@@ -71,18 +71,6 @@ little() {
     put "$file" 3840 ffffff000080
 }
 
-# varying FILE: 135400 bytes, revision 1.0, three traces of 3, 2 and 65535 samples by their own headers
-varying() {
-    local file=$1
-    survey "$file"
-    head -c 3600 "$file" > "$file.head"
-    { cat "$file.head"; zeros 131800; } > "$file"
-    rm "$file.head"
-    put "$file" 3502 0000
-    put "$file" 3714 0003
-    put "$file" 4204 ffff
-}
-
 # at ORDER FILE PLACE HEX: the number into the file, in that order of bytes
 at() {
     local hex=$4

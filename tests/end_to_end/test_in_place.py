@@ -367,12 +367,15 @@ def waiting(begun):
 def test_file_is_changed_meanwhile(begun, waiting, change):
     running, gate = waiting
     change(begun)
+    left = begun.get(OWN) if begun.has(OWN) else None
+    assert (left is None) == (change is removed)
     gate.write(SCRIPT.encode())
     gate.close()
     _, errors = running.communicate(timeout=60)
     assert (running.returncode, errors.decode().splitlines()[0]) == (4, CHANGED)
-    assert not begun.has(JOURNAL)
-    assert not begun.has(OWN) or begun.get(OWN) != begun.get("whole.sgy")
+    # FILE is as the other program left it, and nothing is beside it
+    assert begun.names("room") == ([] if left is None else ["o.sgy"])
+    assert left is None or same(begun.get(OWN), left)
 
 
 def test_two_at_once(begun, waiting):

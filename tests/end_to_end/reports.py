@@ -23,15 +23,19 @@ def every_report():
     return "".join(line + "\n" for line in PLAIN + traces + FACTS + HEADERS)
 
 
-def check_reload(room, file, edits, options="", reports=None):
-    """After the edits every report answers as it does of the saved file that is loaded anew."""
+def check_reload(room, file, edits, options="", reports=None, refused=0):
+    """After the edits, of which so many are refused, every report answers as it does of the saved file that is loaded anew; gives back how
+    the run ended that loaded it."""
     words = options.split()
     reports = reports or every_report()
     name, _ = placed(room, file)
     edits = lines(edits, " ; ")
     done = room.ask(name, edits, *words)
+    assert sum(line.startswith(b"refused ") for line in done.answers.splitlines()) == refused
+    assert done.status == (1 if refused else 0)
     both = room.ask(name, edits + reports.encode(), "--out", "o.sgy", *words)
     assert same(both.answers[:len(done.answers)], done.answers)
     anew = room.ask("o.sgy", reports, *words)
     assert anew.answers != b""
     assert both.answers[len(done.answers):].decode().splitlines() == anew.answers.decode().splitlines()
+    return anew

@@ -167,22 +167,22 @@ ANSWERS = [
     ),
 ]
 
-# ---- the answer is that of the saved file loaded anew
+# ---- the answer is that of the saved file loaded anew; behind the edits, how many of them are refused
 RELOADS = [
     ("reports before any edit", "s.sgy", ""),
     (
         "reports after sets", "s.sgy",
         "set 1 inline 12 ; set 2 crossline 21 ; set 3 x -7 ; set 3 scalar -100 ; set 1 @190:1 5 ; set 2 @187:8 1000 ; set 9 inline 1 ; "
-        "set 1 @239:4 1",
+        "set 1 @239:4 1", 2,
     ),
-    ("reports after patches", "s.sgy", "patch 1 0 32767 -32768 ; patch 3 1 -6 ; patch 2 2 1 ; patch 2 0 40000"),
-    ("reports after whole traces", "s.sgy", "blank 1 ; copy 2 5 ; set 2 inline 3 ; delete 3 ; move 1 4 ; move 9 1 ; delete 9 ; blank 5"),
+    ("reports after patches", "s.sgy", "patch 1 0 32767 -32768 ; patch 3 1 -6 ; patch 2 2 1 ; patch 2 0 40000", 2),
+    ("reports after whole traces", "s.sgy", "blank 1 ; copy 2 5 ; set 2 inline 3 ; delete 3 ; move 1 4 ; move 9 1 ; delete 9 ; blank 5", 2),
     ("reports after all are gone", "s.sgy", "delete 1 ; delete 1 ; delete 1 ; blank 1 ; blank 2"),
     ("reports after headers", "s.sgy", "bin interval 1000 ; text 3 none ; bin trace_count 9"),
     ("reports of samples of 24 bits", "t.sgy", "patch 1 1 8388607 ; copy 1 2 ; patch 2 0 -5"),
     ("reports of a header extension", "x.sgy", "set 1 @233:8 1 ; bin trace_count 7 ; set 1 @1.1:8 9 ; copy 1 1 ; set 2 @1.157:2 0"),
     ("reports of traces of their own lengths", "v.sgy", "copy 3 1 ; patch 1 0 5 ; delete 2 ; set 2 offset 9"),
-    ("reports under the reading fixed", "loose.sgy", "set 1 @115:2u 4 ; set 2 y 3", "--fixed"),
+    ("reports under the reading fixed", "loose.sgy", "set 1 @115:2u 4 ; set 2 y 3", 0, "--fixed"),
 ]
 
 
@@ -191,9 +191,9 @@ def test_reports(room, row):
     check(room, row)
 
 
-@pytest.mark.parametrize("file, edits, options", [pytest.param(*row[1:], *([""] if len(row) == 3 else []), id=row[0]) for row in RELOADS])
-def test_reports_of_the_saved_file(room, file, edits, options):
-    check_reload(room, file, edits, options)
+@pytest.mark.parametrize("file, edits, refused, options", [pytest.param(*row[1:], *(0, "")[len(row) - 3:], id=row[0]) for row in RELOADS])
+def test_reports_of_the_saved_file(room, file, edits, refused, options):
+    check_reload(room, file, edits, options, refused=refused)
 
 
 # ---- edits at random in 100000 traces, with reports between

@@ -1,8 +1,10 @@
 #!/usr/bin/env bash
 # End-to-end runs of the built program on files, by pytest: answers, exit status, standard error, and the saved file byte by byte
 # (tests/end_to_end). Beside them the documents (documents.sh) and the pictures (pictures.sh). The Debian packages that they need are
-# installed where they are missing and this is root; elsewhere the tests by pytest are left out with a word, but never where CI is set. They
-# run on all processors where pytest-xdist is installed. With words of pytest they run alone, as with -k 'sets and gets'.
+# installed where they are missing and this is root; elsewhere the tests by pytest are left out with a word, and where CI is set that is a
+# failure. What lacks something else here, as a C compiler, the right to mount or gnuplot, is left out under CI too: it is told, and of the
+# tests by pytest a line in front of the last one says how many, and why. They run on all processors where pytest-xdist is installed. With
+# words of pytest they run alone, as with -k 'sets and gets'.
 # usage: tests/run.sh [PROGRAM] [WORD-OF-PYTEST..]
 set -u
 here=$(cd "$(dirname "$0")" && pwd)
@@ -35,7 +37,7 @@ if [ -n "$lacking" ] && [ "$(id -u)" = 0 ] && command -v apt-get > /dev/null; th
 fi
 lacking=$(missing $needed)
 
-# tables WORD..: the tests by pytest, each worker with some of them; how many passed and failed goes to the file `counts`
+# tables WORD..: the tests by pytest, each worker with some of them; how many passed, failed and were left out, and why, goes to the file `counts`
 tables() {
     SEGYWB=$program SEGYWB_COUNTS=$own/counts "$python" -m pytest -q -rs -p no:cacheprovider --tb=short --basetemp "$own/rooms" "$here/end_to_end" "$@"
 }
@@ -60,8 +62,9 @@ if [ -n "$lacking" ]; then
 else
     wait
     cat "$own/tables.told"
-    if read -r ran lost < "$own/counts" && [ "$ran" -gt 0 ]; then
+    if read -r ran lost skipped reasons < "$own/counts" && [ "$ran" -gt 0 ]; then
         passed=$((passed + ran)) failed=$((failed + lost))
+        [ "$skipped" = 0 ] || printf 'left out %d of the tests by pytest: %s\n' "$skipped" "$reasons"
     else tell 'the tests by pytest' 'did not run to their end'; fi
 fi
 

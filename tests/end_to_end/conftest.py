@@ -5,6 +5,7 @@ import os
 import shutil
 import subprocess
 import sys
+from collections import Counter
 from pathlib import Path
 
 import pytest
@@ -40,12 +41,15 @@ def pytest_collection_modifyitems(items):
 
 
 def pytest_terminal_summary(terminalreporter):
-    """The numbers of passed and failed tests to the file that SEGYWB_COUNTS names: run.sh adds them to those of its other parts."""
+    """The numbers of passed, failed and skipped tests, and why these were skipped, to the file that SEGYWB_COUNTS names, in one line: run.sh
+    adds them to those of its other parts."""
     path = os.environ.get("SEGYWB_COUNTS")
     if path and not hasattr(terminalreporter.config, "workerinput"):
         stats = terminalreporter.stats
         failed = len(stats.get("failed", [])) + len(stats.get("error", []))
-        Path(path).write_text(f"{len(stats.get('passed', []))} {failed}\n")
+        reasons = Counter(report.longrepr[2].removeprefix("Skipped: ") for report in stats.get("skipped", []))
+        told = "; ".join(f"{number} {reason}" for reason, number in reasons.most_common())
+        Path(path).write_text(f"{len(stats.get('passed', []))} {failed} {sum(reasons.values())} {told}\n")
 
 
 @pytest.fixture(scope="session")

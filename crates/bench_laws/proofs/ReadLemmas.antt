@@ -1,6 +1,6 @@
 -- What edits and queries are told of reads that failed.
 use Rattle.std.proofs.Common.{◌≡◌, ◌⊎◌, inl, inr, ℕ, ◌+◌, nat_abs, nat_le, nat_lt, ℤ, pos, Bool, true, false, true≢false, not, List, [], ◌∷◌, Option, Some, None, Result, Ok, Err, IfErr, refl, sym, ap, ◌∙◌}
-use Rattle.std.specs.Prelude.{length, max, is_none, ◌&&◌, option_map, if◌then◌else◌}
+use Rattle.std.specs.Prelude.{length, max, is_none, ◌&&◌, ◌||◌, option_map, if◌then◌else◌}
 use Rattle.std.specs.Option.{IfSome, option_map_or, option_or}
 use Rattle.std.specs.List.{list_all}
 use Rattle.std.specs.Ordering.{int_eq}
@@ -42,7 +42,7 @@ use Rattle.bench_rules.specs.declared.chosen_query.ChosenQuery.{ChosenQuery}
 use Rattle.bench_rules.specs.declared.chosen_query.ChosenQuery.TheVariants as chosen_queries
 use Rattle.bench_rules.specs.declared.test.Test.{Test}
 use Rattle.bench_rules.specs.ChosenEdits.{counted_each, has_fields, refusal_of_chosen, refusal_of_edit, refusal_under}
-use Rattle.bench_rules.specs.ChosenQueries.{answer_of_chosen, answer_of_each, answer_under, asks_for_fields, found_answer_of_each, of_range, table_answer_of_each, table_of_each}
+use Rattle.bench_rules.specs.ChosenQueries.{answer_of_chosen, answer_of_each, answer_under, asks_for_fields, found_answer_of_each, lacks_samples, of_range, table_answer_of_each, table_of_each}
 use Rattle.bench_rules.specs.Conditions.{chosen_among, lacks_values, range_of, tests_of}
 use Rattle.bench_rules.specs.RangeRefusals.{range_refusal}
 use Rattle.bench_rules.proofs.ToldLemmas.{told_is}
@@ -353,6 +353,7 @@ each_answer_silent v fields (chosen_queries.Table names) ps = table_of_each_sile
 each_answer_silent v fields (chosen_queries.Find f low high) ps = found_of_each_silent v ps low high (place_in_trace fields f)
 each_answer_silent v fields chosen_queries.Extremes ps = tt
 each_answer_silent v fields chosen_queries.Stats ps = of_values_silent v.head (Ok (statistics_of_each (has_floats v.head) v ps)) tt
+each_answer_silent v fields (chosen_queries.Samples range) ps = of_values_silent v.head (Ok _) tt
 
 chosen_answer_silent : (v : Volume) (fields : Pairs) (query : ChosenQuery) (o : Option (List ℕ)) → SilentReply (answer_of_chosen v fields query o)
 chosen_answer_silent v fields query None = refl
@@ -361,7 +362,7 @@ chosen_answer_silent v fields query (Some ps) = each_answer_silent v fields quer
 answer_under_silent : (v : Volume) (fields : Pairs) (range : Option (ℕ × ℕ)) (query : ChosenQuery) (o : Option (List Test)) → SilentReply (answer_under v fields range query o)
 answer_under_silent v fields range query None = refl
 answer_under_silent v fields range query (Some tests) =
-    choose_reply (lacks_values v.head.format tests) _ _ refl (chosen_answer_silent v fields query (chosen_among v tests (range_of range)))
+    choose_reply (lacks_values v.head.format tests || lacks_samples v.head.format query) _ _ refl (chosen_answer_silent v fields query (chosen_among v tests (range_of range)))
 
 answer_silent : (s : State) (query : Query) → SilentReply (answer s query)
 answer_silent s queries.Count = tt

@@ -1,5 +1,7 @@
 -- What is told of traces that are chosen. Traces are counted from 1.
-use Rattle.std.specs.Prelude.{ℕ, ℤ, Bool, true, not, is_some, List, map, filter, filter_map, length, Option, Some, None, option_map, Ok, Err, if◌then◌else◌}
+use Rattle.std.specs.Prelude.{ℕ, ℤ, Bool, true, false, ◌||◌, not, is_none, is_some, List, map, filter, filter_map, length, Option, Some, None, option_map, Ok, Err, if◌then◌else◌}
+use Rattle.sample_codes.specs.declared.format.Format.{Format}
+use Rattle.sample_codes.specs.Formats.{values}
 use Rattle.field_map.specs.declared.place.Place.{Place}
 use Rattle.field_map.specs.Pairs.{Pairs}
 use Rattle.frame_cut.specs.Traces.{count_of, is_trace, trace_at}
@@ -11,7 +13,7 @@ use Rattle.bench_rules.specs.declared.ask_fault.AskFault.{AskFault}
 use Rattle.bench_rules.specs.declared.ask_fault.AskFault.TheVariants.{NoField, NoPlace, NoValues}
 use Rattle.bench_rules.specs.declared.chosen.Chosen.{Chosen}
 use Rattle.bench_rules.specs.declared.chosen_query.ChosenQuery.{ChosenQuery}
-use Rattle.bench_rules.specs.declared.chosen_query.ChosenQuery.TheVariants.{Count, Table, Find, Extremes, Stats}
+use Rattle.bench_rules.specs.declared.chosen_query.ChosenQuery.TheVariants.{Count, Table, Find, Extremes, Stats, Samples}
 use Rattle.bench_rules.specs.declared.extremes.Extremes.{Extremes as ExtremesOfNumbers}
 use Rattle.bench_rules.specs.declared.test.Test.{Test}
 use Rattle.bench_rules.specs.Conditions.{chosen_among, lacks_values, range_of, tests_of}
@@ -20,6 +22,7 @@ use Rattle.bench_rules.specs.ManyTraces.{each_of}
 use Rattle.bench_rules.specs.Places.{place_in_trace}
 use Rattle.bench_rules.specs.Replies.{Reply, of_traces, or_fault}
 use Rattle.bench_rules.specs.SampleStatistics.{stats_answer_of_each}
+use Rattle.bench_rules.specs.Sections.{section_answer_of_each}
 use Rattle.bench_rules.specs.Tables.{is_between, row_of}
 
 -- for each of these traces its position and its numbers at these places; nothing where one of them lacks a place
@@ -49,6 +52,7 @@ asks_for_fields fields (Table names) = is_some (each_of (place_in_trace fields) 
 asks_for_fields fields (Find field low high) = is_some (place_in_trace fields field)
 asks_for_fields fields Extremes = true
 asks_for_fields fields Stats = true
+asks_for_fields fields (Samples range) = true
 
 -- the table at the places of fields, if each has one
 abbrev pub table_answer_of_each : Volume → List ℕ → Option (List Place) → Reply
@@ -67,17 +71,25 @@ answer_of_each v fields (Table names) ps = table_answer_of_each v ps (each_of (p
 answer_of_each v fields (Find field low high) ps = found_answer_of_each v ps low high (place_in_trace fields field)
 answer_of_each v fields Extremes ps = Ok (answers.Extremes (extremes_of_each v (named_places fields) ps))
 answer_of_each v fields Stats ps = stats_answer_of_each v ps
+answer_of_each v fields (Samples range) ps = section_answer_of_each v range ps
 
 -- the same where these are the chosen traces: E03 where a trace of the range lacks the place of a condition
 abbrev pub answer_of_chosen : Volume → Pairs → ChosenQuery → Option (List ℕ) → Reply
 answer_of_chosen v fields query None = Err NoPlace
 answer_of_chosen v fields query (Some ps) = answer_of_each v fields query ps
 
--- the same under these conditions: E02 where a field of one has no place, E12 where one asks for values that samples have not
+-- the query asks for samples themselves, and those of the format have no values
+abbrev pub lacks_samples : Format → ChosenQuery → Bool
+lacks_samples format (Samples range) = is_none (values format)
+lacks_samples format query = false
+
+-- the same under these conditions: E02 where a field of one has no place, E12 where one asks for values that samples have not, or the query for
+-- samples that have none
 abbrev pub answer_under : Volume → Pairs → Option (ℕ × ℕ) → ChosenQuery → Option (List Test) → Reply
 answer_under v fields range query None = Err NoField
 answer_under v fields range query (Some tests) =
-    if lacks_values v.head.format tests then Err NoValues else answer_of_chosen v fields query (chosen_among v tests (range_of range))
+    if lacks_values v.head.format tests || lacks_samples v.head.format query then Err NoValues
+    else answer_of_chosen v fields query (chosen_among v tests (range_of range))
 
 -- the same where the traces of the range are there
 abbrev pub of_range : Volume → Option (ℕ × ℕ) → Reply → Reply

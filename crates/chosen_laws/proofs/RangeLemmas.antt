@@ -21,7 +21,7 @@ use Rattle.bench_rules.specs.declared.refusal.Refusal.TheVariants as refusals
 use Rattle.bench_rules.specs.After.{bytes_after}
 use Rattle.bench_rules.specs.Answer.{answer, found_answer, table_answer}
 use Rattle.bench_rules.specs.ChosenEdits.{bytes_after_each, counted_each, has_fields, refusal_of_chosen, refusal_of_edit}
-use Rattle.bench_rules.specs.ChosenQueries.{answer_of_chosen, answer_of_each, asks_for_fields}
+use Rattle.bench_rules.specs.ChosenQueries.{answer_of_chosen, answer_of_each, asks_for_fields, lacks_samples}
 use Rattle.bench_rules.specs.Computed.{Formula, compute_refusal_in, formula_of}
 use Rattle.bench_rules.specs.Conditions.{chosen_among, judged}
 use Rattle.bench_rules.specs.ManyTraces.{each_of, positions}
@@ -133,10 +133,12 @@ compute_is_of_its_range s a b field source steps = record {
 
 -- ---- queries
 
-answer_of_range : (s : State) (a b : ℕ) (query : ChosenQuery) → answer s (queries.OfChosen (range a b) query)
+answer_of_range : (s : State) (a b : ℕ) (query : ChosenQuery) → lacks_samples s.volume.head.format query ≡ false → answer s (queries.OfChosen (range a b) query)
     ≡ of_traces s.volume a b (if not (asks_for_fields s.fields query) then Err asks.NoField else answer_of_each s.volume s.fields query (positions a b))
-answer_of_range s a b query =
-    ap (λ (o : Option (List ℕ)). of_traces s.volume a b (if not (asks_for_fields s.fields query) then Err asks.NoField else answer_of_chosen s.volume s.fields query o))
+answer_of_range s a b query has =
+    ap (λ (lacks : Bool). of_traces s.volume a b (if not (asks_for_fields s.fields query) then Err asks.NoField else
+        (if lacks then Err asks.NoValues else answer_of_chosen s.volume s.fields query (chosen_among s.volume [] (positions a b))))) has
+    ∙ ap (λ (o : Option (List ℕ)). of_traces s.volume a b (if not (asks_for_fields s.fields query) then Err asks.NoField else answer_of_chosen s.volume s.fields query o))
     (all_meet s.volume (positions a b))
 
 table_of_range : (s : State) (a b : ℕ) (names : List Field) (o : Option (List Place)) → each_of (place_in_trace s.fields) names ≡ o
@@ -154,8 +156,8 @@ found_of_range s a b field low high (Some place) e = rw e refl
 pub queries_are_of_their_range : QueriesAreOfTheirRange
 queries_are_of_their_range = record {
   table = λ s a b names.
-      ap (of_traces s.volume a b) (table_of_range s a b names (each_of (place_in_trace s.fields) names) refl) ∙ sym (answer_of_range s a b (about.Table names));
+      ap (of_traces s.volume a b) (table_of_range s a b names (each_of (place_in_trace s.fields) names) refl) ∙ sym (answer_of_range s a b (about.Table names) refl);
   find = λ s a b field low high.
-      ap (of_traces s.volume a b) (found_of_range s a b field low high (place_in_trace s.fields field) refl) ∙ sym (answer_of_range s a b (about.Find field low high));
-  extremes = λ s a b. sym (answer_of_range s a b about.Extremes);
+      ap (of_traces s.volume a b) (found_of_range s a b field low high (place_in_trace s.fields field) refl) ∙ sym (answer_of_range s a b (about.Find field low high) refl);
+  extremes = λ s a b. sym (answer_of_range s a b about.Extremes refl);
 }

@@ -1,24 +1,24 @@
 -- What is told of the traces that are chosen.
 use Rattle.std.proofs.Common.{◌≡◌, ◌⊎◌, ℕ, ◌+◌, ◌<◌, ◌≤◌, Bool, true, false, not, List, length, Option, Some, None, inl, inr, refl, sym, ap, ap₂, subst, ◌∙◌, arith}
-use Rattle.std.specs.Prelude.{Ok, Err, IfOk, IfErr, option_and_then, if◌then◌else◌}
+use Rattle.std.specs.Prelude.{◌||◌, Ok, Err, IfOk, IfErr, option_and_then, if◌then◌else◌}
 use Rattle.field_map.specs.Pairs.{Pairs}
 use Rattle.frame_cut.specs.Volume.{Volume}
 use Rattle.bench_rules.specs.declared.ask_fault.AskFault.{AskFault}
-use Rattle.bench_rules.specs.declared.ask_fault.AskFault.TheVariants.{NoField, NoPlace, NoValues, OutOfMemory}
+use Rattle.bench_rules.specs.declared.ask_fault.AskFault.TheVariants.{FileChanged, NoField, NoPlace, NoValues, OutOfMemory, ReadFailed}
 use Rattle.bench_rules.specs.declared.chosen.Chosen.{Chosen}
 use Rattle.bench_rules.specs.declared.chosen_query.ChosenQuery.{ChosenQuery}
 use Rattle.bench_rules.specs.declared.chosen_query.ChosenQuery.TheVariants as about
 use Rattle.bench_rules.specs.declared.query.Query.TheVariants.{OfChosen}
 use Rattle.bench_rules.specs.declared.test.Test.{Test}
 use Rattle.bench_rules.specs.Answer.{answer, IsReply, Reply}
-use Rattle.bench_rules.specs.ChosenQueries.{answer_of_chosen, answer_of_each, answer_under, asks_for_fields, chosen_answer, of_range}
+use Rattle.bench_rules.specs.ChosenQueries.{answer_of_chosen, answer_of_each, answer_under, asks_for_fields, chosen_answer, lacks_samples, of_range}
 use Rattle.bench_rules.specs.Conditions.{chosen, chosen_among, lacks_values, range_of, tests_of}
 use Rattle.bench_rules.specs.Looks.{asking_looks, choosing_looks, chosen_query_looks, looks_at_chosen, most_chosen, most_query_looks}
 use Rattle.bench_rules.specs.RangeFaults.{or_fault}
 use Rattle.bench_rules.specs.RangeRefusals.{range_refusal}
 use Rattle.bench_rules.specs.ReadFaults.{IsReadFault}
 use Rattle.bench_rules.specs.State.{State}
-use Rattle.chosen_traces.specs.Choosing.{choosing_fault, fault_under, fault_without}
+use Rattle.chosen_traces.specs.Choosing.{choosing_fault, fault_in_front, fault_under, fault_without}
 
 -- the looks of a query where these are chosen
 pub looks_chosen : (v : Volume) (pairs : Pairs) (c : Chosen) (q : ChosenQuery) (ps : List ℕ) → chosen v pairs c ≡ Some ps → chosen_query_looks v pairs c q ≡ choosing_looks v pairs c + asking_looks q (length ps)
@@ -31,21 +31,56 @@ asking-more (about.Table fields) n m less = less
 asking-more (about.Find field low high) n m less = less
 asking-more about.Extremes n m less = less
 asking-more about.Stats n m less = less
+asking-more (about.Samples range) n m less = omega arith
 
 -- what is told where the traces of the range are there
 abbrev after_range : Volume → Pairs → Chosen → ChosenQuery → Reply
 after_range v pairs c q = if not (asks_for_fields pairs q) then Err NoField else answer_under v pairs c.traces q (tests_of pairs c.conditions)
 
+-- ---- samples without values are told in front of a place that a trace lacks alone
+
+field_stays : (lacks : Bool) → fault_in_front lacks NoField ≡ NoField
+field_stays true = refl
+field_stays false = refl
+
+memory_stays : (lacks : Bool) → fault_in_front lacks OutOfMemory ≡ OutOfMemory
+memory_stays true = refl
+memory_stays false = refl
+
+read_stays : (lacks on_disk : Bool) (fault : AskFault) → IsReadFault on_disk fault → IsReadFault on_disk (fault_in_front lacks fault)
+read_stays lacks on_disk fault read = (read.0, by lacks read.1)
+  where
+    by : (b : Bool) → (fault ≡ ReadFailed) ⊎ (fault ≡ FileChanged) → (fault_in_front b fault ≡ ReadFailed) ⊎ (fault_in_front b fault ≡ FileChanged)
+    by true (inl is) = inl (ap (fault_in_front true) is)
+    by true (inr is) = inr (ap (fault_in_front true) is)
+    by false (inl is) = inl (ap (fault_in_front false) is)
+    by false (inr is) = inr (ap (fault_in_front false) is)
+
+-- a query that lacks samples is refused of any traces
+lacks_told : (v : Volume) (pairs : Pairs) (q : ChosenQuery) (ps : List ℕ) → lacks_samples v.head.format q ≡ true → answer_of_each v pairs q ps ≡ Err NoValues
+lacks_told v pairs about.Count ps e = absurd cc
+lacks_told v pairs (about.Table fields) ps e = absurd cc
+lacks_told v pairs (about.Find field low high) ps e = absurd cc
+lacks_told v pairs about.Extremes ps e = absurd cc
+lacks_told v pairs about.Stats ps e = absurd cc
+lacks_told v pairs (about.Samples range) ps e = rw e refl
+
 module _ (v : Volume) (pairs : Pairs) (c : Chosen) (q : ChosenQuery) where
-  -- a fault of the choice is the fault of the reply
-  under-fault : (o : Option (List Test)) (fault : AskFault) → fault_under v c.traces o ≡ Some fault → answer_under v pairs c.traces q o ≡ Err fault
-  under-fault None fault e = let is : NoField ≡ fault = cc in ap (λ f. Err f) is
-  under-fault (Some tests) fault e = by (lacks_values v.head.format tests) (chosen_among v tests (range_of c.traces)) e
+  -- a fault of the choice is the fault of the reply, but that samples lack values
+  under-fault : (o : Option (List Test)) (fault : AskFault) → fault_under v c.traces o ≡ Some fault
+      → answer_under v pairs c.traces q o ≡ Err (fault_in_front (lacks_samples v.head.format q) fault)
+  under-fault None fault e =
+      let is : NoField ≡ fault = cc in
+      ap (λ f. Err f) (sym (field_stays (lacks_samples v.head.format q))) ∙ ap (λ f. Err (fault_in_front (lacks_samples v.head.format q) f)) is
+  under-fault (Some tests) fault e = by (lacks_values v.head.format tests) (lacks_samples v.head.format q) (chosen_among v tests (range_of c.traces)) e
     where
-      by : (lacks : Bool) (o : Option (List ℕ)) → (if lacks then Some NoValues else fault_without o) ≡ Some fault → (if lacks then Err NoValues else answer_of_chosen v pairs q o) ≡ Err fault
-      by true o f = let is : NoValues ≡ fault = cc in ap (λ g. Err g) is
-      by false None f = let is : NoPlace ≡ fault = cc in ap (λ g. Err g) is
-      by false (Some ps) f = absurd cc
+      by : (lacks samples : Bool) (o : Option (List ℕ)) → (if lacks then Some NoValues else fault_without o) ≡ Some fault
+          → (if lacks || samples then Err NoValues else answer_of_chosen v pairs q o) ≡ Err (fault_in_front samples fault)
+      by true true o f = let is : NoValues ≡ fault = cc in ap (λ g. Err (fault_in_front true g)) is
+      by true false o f = let is : NoValues ≡ fault = cc in ap (λ g. Err (fault_in_front false g)) is
+      by false true None f = let is : NoPlace ≡ fault = cc in ap (λ g. Err (fault_in_front true g)) is
+      by false false None f = let is : NoPlace ≡ fault = cc in ap (λ g. Err (fault_in_front false g)) is
+      by false samples (Some ps) f = absurd cc
 
   -- and where traces are chosen, it is what is told of these
   abbrev among : List Test → Option (List ℕ)
@@ -54,11 +89,13 @@ module _ (v : Volume) (pairs : Pairs) (c : Chosen) (q : ChosenQuery) where
   under-chosen : (o : Option (List Test)) (ps : List ℕ) → option_and_then among (option_and_then (λ tests. if lacks_values v.head.format tests then None else Some tests) o) ≡ Some ps
       → answer_under v pairs c.traces q o ≡ answer_of_each v pairs q ps
   under-chosen None ps e = absurd cc
-  under-chosen (Some tests) ps e = by (lacks_values v.head.format tests) e
+  under-chosen (Some tests) ps e = by (lacks_values v.head.format tests) (lacks_samples v.head.format q) refl e
     where
-      by : (lacks : Bool) → option_and_then among (if lacks then None else Some tests) ≡ Some ps → (if lacks then Err NoValues else answer_of_chosen v pairs q (among tests)) ≡ answer_of_each v pairs q ps
-      by true f = absurd cc
-      by false f = ap (λ o. answer_of_chosen v pairs q o) f
+      by : (lacks samples : Bool) → lacks_samples v.head.format q ≡ samples → option_and_then among (if lacks then None else Some tests) ≡ Some ps
+          → (if lacks || samples then Err NoValues else answer_of_chosen v pairs q (among tests)) ≡ answer_of_each v pairs q ps
+      by true samples is f = absurd cc
+      by false true is f = sym (lacks_told v pairs q ps is)
+      by false false is f = ap (λ o. answer_of_chosen v pairs q o) f
 
   with-fields : asks_for_fields pairs q ≡ true → after_range v pairs c q ≡ answer_under v pairs c.traces q (tests_of pairs c.conditions)
   with-fields has = rw has refl
@@ -83,10 +120,20 @@ module _ (s : State) (v : Volume) (pairs : Pairs) (c : Chosen) (q : ChosenQuery)
 
   module _ {P : Type 0} (on_disk : Bool) (disk : s.on_disk ≡ on_disk) (none : o ≡ None) (free : range_refusal v c.traces ≡ None) (has : asks_for_fields pairs q ≡ true) (sure : P) where
     -- no traces are chosen
-    pub choice_told : (fault : AskFault) → (fault ≡ OutOfMemory) ⊎ (IsReadFault on_disk fault × (0 < choosing_looks v pairs c)) ⊎ (P → choosing_fault v pairs c ≡ Some fault) → IsReply s (OfChosen c q) (Err fault)
-    choice_told fault (inl is) = subst (λ (f : AskFault). IsReply s (OfChosen c q) (Err f)) (sym is) (wants free)
-    choice_told fault (inr (inl read)) = fails on_disk fault disk (omega (arith, read.1)) read.0
-    choice_told fault (inr (inr is)) = inl (sym (in-range none ∙ with-fields v pairs c q has ∙ under-fault v pairs c q (tests_of pairs c.conditions) fault (is sure)))
+    choice_by : (fault : AskFault) → (fault ≡ OutOfMemory) ⊎ (IsReadFault on_disk fault × (0 < choosing_looks v pairs c)) ⊎ (P → choosing_fault v pairs c ≡ Some fault)
+        → IsReply s (OfChosen c q) (Err (fault_in_front (lacks_samples v.head.format q) fault))
+    choice_by fault (inl is) =
+        subst (λ (f : AskFault). IsReply s (OfChosen c q) (Err f))
+        (sym (ap (fault_in_front (lacks_samples v.head.format q)) is ∙ memory_stays (lacks_samples v.head.format q))) (wants free)
+    choice_by fault (inr (inl read)) =
+        fails on_disk (fault_in_front (lacks_samples v.head.format q) fault) disk (omega (arith, read.1)) (read_stays (lacks_samples v.head.format q) on_disk fault read.0)
+    choice_by fault (inr (inr is)) = inl (sym (in-range none ∙ with-fields v pairs c q has ∙ under-fault v pairs c q (tests_of pairs c.conditions) fault (is sure)))
+
+    -- the same, told of the volume as it is after the choice
+    pub choice_told : (w : Volume) (fault told : AskFault) → w ≡ v → told ≡ fault_in_front (lacks_samples w.head.format q) fault
+        → (fault ≡ OutOfMemory) ⊎ (IsReadFault on_disk fault × (0 < choosing_looks v pairs c)) ⊎ (P → choosing_fault v pairs c ≡ Some fault) → IsReply s (OfChosen c q) (Err told)
+    choice_told w fault told is so why =
+        subst (λ (f : AskFault). IsReply s (OfChosen c q) (Err f)) (sym (so ∙ ap (λ (u : Volume). fault_in_front (lacks_samples u.head.format q) fault) is)) (choice_by fault why)
 
     module _ (ps : List ℕ) (found : chosen v pairs c ≡ Some ps) (few : length ps ≤ most_chosen v pairs c) where
       answered : answer s (OfChosen c q) ≡ answer_of_each v pairs q ps

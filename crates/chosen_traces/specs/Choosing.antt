@@ -1,5 +1,5 @@
 -- Why no traces are chosen. Traces are counted from 1.
-use Rattle.std.specs.Prelude.{ℕ, List, Option, Some, None, if◌then◌else◌}
+use Rattle.std.specs.Prelude.{ℕ, Bool, true, List, Option, Some, None, if◌then◌else◌}
 use Rattle.field_map.specs.Pairs.{Pairs}
 use Rattle.frame_cut.specs.Volume.{Volume}
 use Rattle.bench_rules.specs.declared.ask_fault.AskFault.{AskFault}
@@ -21,3 +21,8 @@ fault_under v range (Some tests) = if lacks_values v.head.format tests then Some
 -- why the traces of a range cannot be chosen, where they are there
 abbrev pub choosing_fault : Volume → Pairs → Chosen → Option AskFault
 choosing_fault v fields c = fault_under v c.traces (tests_of fields c.conditions)
+
+-- why traces are not chosen, where samples lack the values that are asked for: that is told in front of the place that a trace lacks
+abbrev pub fault_in_front : Bool → AskFault → AskFault
+fault_in_front true NoPlace = NoValues
+fault_in_front lacks fault = fault

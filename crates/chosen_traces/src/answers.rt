@@ -1,24 +1,29 @@
 // The answers to queries about the traces that conditions choose.
-ghost use Rattle.std.specs.Prelude.{◌≡◌, ◌⊎◌, ◌+◌, ◌<◌, None, Ok, Err, IsTrue, IfOk, IfErr, length, map as map_of};
+ghost use Rattle.std.specs.Prelude.{◌≡◌, ◌⊎◌, ◌+◌, ◌<◌, None, Ok, Err, true, IsTrue, IfOk, IfErr, length, map as map_of};
 ghost use Rattle.frame_cut.specs.Traces.{count_of};
 ghost use Rattle.trace_record.specs.Packed.{record_in};
 ghost use Rattle.edit_overlay.specs.CountedVolume.{IsSeen, RisesAtMost};
 ghost use Rattle.bench_rules.specs.declared.ask_fault.AskFault.TheVariants.{OutOfMemory as no_memory};
 ghost use Rattle.bench_rules.specs.declared.query.Query.TheVariants as queries;
 ghost use Rattle.bench_rules.specs.Answer.{IsReply, Reply};
-ghost use Rattle.bench_rules.specs.ChosenQueries.{answer_of_each, asks_for_fields as asks_for_fields_of, found_answer_of_each, of_range};
+ghost use Rattle.bench_rules.specs.ChosenQueries.{answer_of_each, asks_for_fields as asks_for_fields_of, found_answer_of_each, lacks_samples, of_range};
 ghost use Rattle.bench_rules.specs.Conditions.{AreRising};
 ghost use Rattle.bench_rules.specs.Live.{AreRecordsOf};
 ghost use Rattle.bench_rules.specs.Looks.{asking_looks, chosen_query_looks, most_query_looks};
 ghost use Rattle.bench_rules.specs.Places.{place_in_trace as place_of_field};
 ghost use Rattle.bench_rules.specs.RangeFaults.{or_fault};
 ghost use Rattle.bench_rules.specs.RangeRefusals.{range_refusal};
+ghost use Rattle.bench_rules.specs.Sections.{section_answer_of_each};
+ghost use Rattle.chosen_traces.specs.Choosing.{fault_in_front};
 ghost use Rattle.bench_rules.specs.ReadFaults.{IsReadFault};
 ghost use Rattle.bench_rules.specs.State.{State};
 ghost use Rattle.chosen_traces.specs.RecordTests.{HasRecords};
 
 use crate::choosing::choose;
-use bench_rules::{Answer, AskFault, Chosen, ChosenQuery, Field, place_in_trace, range_fault};
+use bench_rules::{
+    Answer, AskFault, Chosen, ChosenQuery, Field, Items, SampleRange, Section, has_opaque_samples,
+    place_in_trace, range_fault,
+};
 use edit_overlay::Overlay;
 use field_map::FieldMap;
 use header_answers::{extremes_among, found_among, named_places};
@@ -59,7 +64,7 @@ pub fn chosen_answer(
     }
     let traces = match choose(alloc, overlay, map, chosen) {
         Ok(traces) => traces,
-        Err(fault) => return Err(fault),
+        Err(fault) => return Err(fault_of_choice(overlay, query, fault)),
     };
     told(alloc, overlay, map, traces, query)
 }
@@ -76,12 +81,38 @@ fn fault_of_range(overlay: &Overlay<PackedRecord>, chosen: &Chosen) -> Option<As
     }
 }
 
+// Why no traces are chosen: that a query asks for samples which have no values, E12, is told in
+// front of the place that a trace lacks, E03.
+fn fault_of_choice(
+    overlay: &Overlay<PackedRecord>,
+    query: &ChosenQuery,
+    fault: AskFault,
+) -> AskFault
+    ensures { result ≡ fault_in_front (lacks_samples overlay.now.volume.head.format query.now)
+        fault }
+{
+    match query {
+        ChosenQuery::Samples(_) if has_opaque_samples(overlay) => without_samples(fault),
+        _ => fault,
+    }
+}
+
+fn without_samples(fault: AskFault) -> AskFault
+    ensures { result ≡ fault_in_front true fault }
+{
+    match fault {
+        AskFault::NoPlace => AskFault::NoValues,
+        _ => fault,
+    }
+}
+
 // Whether each field of the query has a place.
 fn asks_for_fields(map: &FieldMap, query: &ChosenQuery) -> bool
     ensures { result ≡ asks_for_fields_of map.now.pairs query.now }
 {
     match query {
-        ChosenQuery::Count | ChosenQuery::Extremes | ChosenQuery::Stats => true,
+        ChosenQuery::Count | ChosenQuery::Extremes | ChosenQuery::Stats | ChosenQuery::Samples(_) =>
+            true,
         ChosenQuery::Table(fields) => have_places(map, fields.as_slice()),
         ChosenQuery::Find(field, _low, _high) => place_in_trace(map, field).is_some(),
     }
@@ -125,7 +156,25 @@ fn told(
             Ok(Answer::Extremes(extremes))
         }
         ChosenQuery::Stats => stats_among(alloc, overlay, traces.as_slice()),
+        ChosenQuery::Samples(range) => section(overlay, traces, *range),
     }
+}
+
+// The section of these traces: E12 where samples have no values. Looks at none of them.
+fn section(
+    overlay: &Overlay<PackedRecord>,
+    traces: Vec<u32>,
+    samples: SampleRange,
+) -> Result<Answer, AskFault>
+    ensures { result ≡ section_answer_of_each overlay.now.volume samples traces.items }
+{
+    if has_opaque_samples(overlay) {
+        return Err(AskFault::NoValues);
+    }
+    Ok(Answer::Section(Section {
+        traces: Items::new(traces),
+        samples,
+    }))
 }
 
 // Those of these traces whose field has a number from low to high: E02 where it has no place.

@@ -248,3 +248,5 @@ answers_are_full_lines (answers.Extremes fields) h = a_list (codes "extremes") (
 answers_are_full_lines (answers.Chosen n) h = one_line (with_blanks (codes "chosen" ∷ decimal n ∷ [])) (words_line (codes "chosen") refl (word (decimal n) (plain_decimal n) no_word))
 answers_are_full_lines (answers.Stats traces) h = a_list (codes "stats") (map trace_statistics_text traces) refl (each_full trace_statistics_text full_trace_statistics traces)
 answers_are_full_lines (answers.FloatStats traces) h = a_list (codes "stats") (map trace_ranks_text traces) refl (each_full trace_ranks_text full_trace_ranks traces)
+answers_are_full_lines (answers.Section section) h =
+    one_line (with_blanks (codes "samples" ∷ decimal (length section.traces) ∷ [])) (words_line (codes "samples") refl (word (decimal (length section.traces)) (plain_decimal (length section.traces)) no_word))

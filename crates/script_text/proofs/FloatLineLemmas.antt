@@ -44,7 +44,7 @@ plain_visible (c ∷ cs) h =
     let other : (c == 10) ≡ false = ne_eqb c 10 (λ e. absurd (omega (arith, e, first))) in
     rw (other, plain_visible cs (All-tail (λ x. 32 < x) c cs h)) refl
 
-plain_rank : (f : FloatFormat) (r : ℤ) (word : List ℕ) → ShowsRank f r word → is_plain word ≡ true
+pub plain_rank : (f : FloatFormat) (r : ℤ) (word : List ℕ) → ShowsRank f r word → is_plain word ≡ true
 plain_rank f r word h = plain_visible word h.visible
 
 full_stat : (f : FloatFormat) (s : Option FloatStatistics) (t : Option ShownStatistics) → ShowsStat f s t → is_full_line (stat_text t) ≡ true

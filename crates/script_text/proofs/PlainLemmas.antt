@@ -1,6 +1,6 @@
 -- No answer has an empty line: names and texts have no line feed.
 use Rattle.std.proofs.Common.{◌≡◌, ◌&&◌, ◌==◌, ◌+◌, ℕ, ℤ, suc, zero, length, List, [], ◌∷◌, ◌++◌, map, drop, Bool, true, false, not, nat_lt, nat_le, bytes_eq, Option, Some, None, Result, Ok, Err, cond, refl, sym, ap, subst, ◌∙◌, arith, inl, inr}
-use Rattle.std.specs.Prelude.{⊤, is_none, codes, find, filter_map, option_map, decimal, max, ◌/◌, ◌%◌}
+use Rattle.std.specs.Prelude.{⊤, ◌||◌, is_none, codes, find, filter_map, option_map, decimal, max, ◌/◌, ◌%◌}
 use Rattle.std.specs.List.{list_all, cons_option, prefix_len, range_with_len}
 use Rattle.std.specs.Char.{digit_char}
 use Rattle.std.proofs.lemmas.Bool.{eqb-true, ne_eqb}
@@ -42,7 +42,7 @@ use Rattle.bench_rules.specs.declared.query.Query.{Query}
 use Rattle.bench_rules.specs.declared.query.Query.TheVariants as queries
 use Rattle.bench_rules.specs.declared.refusal.Refusal.{Refusal}
 use Rattle.bench_rules.specs.declared.refusal.Refusal.TheVariants as refusals
-use Rattle.bench_rules.specs.ChosenQueries.{table_of_each, found_of_each, numbers_of_each, asks_for_fields, table_answer_of_each, found_answer_of_each, answer_of_each, answer_of_chosen, answer_under, of_range, chosen_answer}
+use Rattle.bench_rules.specs.ChosenQueries.{table_of_each, found_of_each, numbers_of_each, asks_for_fields, table_answer_of_each, found_answer_of_each, lacks_samples, answer_of_each, answer_of_chosen, answer_under, of_range, chosen_answer}
 use Rattle.bench_rules.specs.Conditions.{chosen_among, lacks_values, range_of, tests_of}
 use Rattle.bench_rules.specs.ManyTraces.{each_of}
 use Rattle.bench_rules.specs.Places.{place_in_trace, place_in_binary, is_in_binary}
@@ -281,6 +281,7 @@ plain_of_each v fields h (chosen_queries.Table names) ps = plain_table_of_each v
 plain_of_each v fields h (chosen_queries.Find field low high) ps = plain_found_of_each v ps low high (place_in_trace fields field)
 plain_of_each v fields h chosen_queries.Extremes ps = plain_names (λ e. extremes_unless_zero (numbers_of_each v e.1 ps)) (named_places fields) (plain_places fields h)
 plain_of_each v fields h chosen_queries.Stats ps = plain_of_values v.head (Ok (statistics_of_each (has_floats v.head) v ps)) (plain_stats (has_floats v.head) v ps)
+plain_of_each v fields h (chosen_queries.Samples range) ps = plain_of_values v.head (Ok (answers.Section (record { traces = ps; samples = range }))) tt
 
 plain_of_chosen : (v : Volume) (fields : Pairs) → HasPlainNames fields → (query : ChosenQuery) (ps : Option (List ℕ)) → PlainReply (answer_of_chosen v fields query ps)
 plain_of_chosen v fields h query None = tt
@@ -289,7 +290,7 @@ plain_of_chosen v fields h query (Some ps) = plain_of_each v fields h query ps
 plain_under : (v : Volume) (fields : Pairs) → HasPlainNames fields → (range : Option (ℕ × ℕ)) (query : ChosenQuery) (tests : Option (List Test)) → PlainReply (answer_under v fields range query tests)
 plain_under v fields h range query None = tt
 plain_under v fields h range query (Some tests) =
-    elim (lacks_values v.head.format tests) as (λ b. PlainReply (cond b (Err NoValues) (answer_of_chosen v fields query (chosen_among v tests (range_of range)))))
+    elim (lacks_values v.head.format tests || lacks_samples v.head.format query) as (λ b. PlainReply (cond b (Err NoValues) (answer_of_chosen v fields query (chosen_among v tests (range_of range)))))
     [ true ↦ tt | false ↦ plain_of_chosen v fields h query (chosen_among v tests (range_of range)) ]
 
 plain_of_range : (v : Volume) (range : Option (ℕ × ℕ)) (reply : Reply) → PlainReply reply → PlainReply (of_range v range reply)
@@ -353,7 +354,7 @@ plain_answer s (queries.OfChosen c query) h = plain_chosen s.volume s.fields h c
 
 -- ---- what is printed
 
-refused_full : (text : List ℕ) → is_plain text ≡ true → IsFullLines (refused_line text)
+pub refused_full : (text : List ℕ) → is_plain text ≡ true → IsFullLines (refused_line text)
 refused_full text e = one_line (codes "refused " ++ text) (full_joined (codes "refused ") refl (word text e no_word))
 
 plain_line_fault : (fault : LineFault) → is_plain (line_fault_text fault) ≡ true
@@ -406,7 +407,7 @@ plain_refusal (refusals.ZeroDivisor p) = plain_words (word (codes "E13 zero divi
 plain_refusal refusals.ReadFailed = refl
 plain_refusal refusals.FileChanged = refl
 
-plain_ask_fault : (fault : AskFault) → is_plain (ask_fault_text fault) ≡ true
+pub plain_ask_fault : (fault : AskFault) → is_plain (ask_fault_text fault) ≡ true
 plain_ask_fault (ask_faults.NoTrace p count) = plain_no_trace p count
 plain_ask_fault ask_faults.NoField = refl
 plain_ask_fault ask_faults.NoPlace = refl

@@ -120,7 +120,7 @@ pub(crate) fn refusal_line(refusal: Refusal) -> TextBuffer
 }
 
 /// The line for a refused query.
-pub(crate) fn ask_fault_line(fault: AskFault) -> TextBuffer
+pub fn ask_fault_line(fault: AskFault) -> TextBuffer
     ensures { result ≡ refused_line (ask_fault_text fault) }
 {
     let mut line = TextBuffer::new();

@@ -122,3 +122,7 @@ IsList (answers.Slice rows) = ⊤
 IsList (answers.Problems lines) = ⊤
 IsList (answers.FloatStats traces) = ⊤
 IsList answer = ⊥
+
+-- each rank has a word that shows it
+abbrev pub EachRankIsShown : Type 0
+EachRankIsShown = (f : FloatFormat) (r : ℤ) → (word : List ℕ) × ShowsRank f r word

@@ -11,7 +11,8 @@ returns-in-Err-clause-reply c = λ s same held disk sure beside.
     let range = c.fault_of_range.ensures in
     let has = sym c.asks_for_fields.ensures ∙ c.if-not-asks_for_fields.false in
     choice_told s c.args.overlay.now.volume c.args.map.now.pairs c.args.chosen.now c.args.query.now c.fault_of_range.result same held range.told
-    c.args.overlay.now.loaded.on_disk disk c.in_default.is (range.free c.in_default.is) has sure c.in-Err.fault c.in-Err.ensures.err
+    c.args.overlay.now.loaded.on_disk disk c.in_default.is (range.free c.in_default.is) has sure
+    c.choose.new.overlay.volume c.in-Err.fault c.fault_of_choice.result c.in-Err.ensures.seen.volume c.fault_of_choice.ensures c.in-Err.ensures.err
 
 pub returns-clause-reply : goal.returns-clause-reply
 returns-clause-reply c = λ s same held disk sure beside.

@@ -26,7 +26,7 @@ script_words  135 1834 each word of a script is read by a function of its own
 script_text   122 1801 each answer and each refusal is printed by a function of its own
 script_run     81 1524 runs and sessions, in memory, on disk and in place, share their steps
 run_ending    116 1822 where a save may go, how runs, saves, repairs and recoveries end, and what standard error says of each
-window_counts 112 1008 the shapes of a window (an interval, rectangles with and without offsets) share one contract, of short functions
+window_counts 112 1030 the shapes of a window (an interval, rectangles with and without offsets) share one contract, of short functions
 volume_tests  193 2198 tests: each crate of them reads all libraries before its first function is proved
 bench_tests   237 2011 tests: each crate of them reads all libraries before its first function is proved
 '

@@ -1,4 +1,4 @@
-// Inserts and pushes into room that a vector has already.
+// Inserts and pushes into memory that a vector has already.
 ghost use Rattle.std.specs.Prelude.{◌≡◌, ◌+◌, ◌<◌, ◌≤◌, ◌++◌, ◌∷◌, []};
 ghost use Rattle.std.specs.List.{insert};
 ghost use Rattle.std.specs.Vec.{vec_len, vec_capacity};

@@ -359,7 +359,7 @@ class Lines(NamedTuple):
 
 
 class Survey(NamedTuple):
-    """The grid of a survey in one line: its lines, how far most cells stand, in x and y, from the one an inline or a crossline before them, ``None``
+    """The grid of a survey in one line: its lines, how far cells most often stand, in x and y, from the one an inline or a crossline before them, ``None``
     where there are none; how many cells there are, and how many a full grid has."""
 
     inline: Lines

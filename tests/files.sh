@@ -1,4 +1,4 @@
-# Makes small SEG-Y files for the tests and the demonstration, with bash and coreutils alone.
+# Makes a small SEG-Y file and writes bytes into one, for examples/make and speed/, with bash and coreutils alone.
 # Places count from 0 here, so byte B of a file is place B - 1.
 
 # put FILE PLACE HEX: these bytes over those from the place on
@@ -42,73 +42,4 @@ survey() {
     put "$file" 3840 0001fffe
     put "$file" 4084 00030004
     put "$file" 4328 fffb0006
-}
-
-# extended FILE: 4084 bytes, big-endian, revision 2.0, one trace with one header extension and two 16-bit samples
-extended() {
-    local file=$1
-    { ebcdic_header; zeros 400; zeros 484; } > "$file"
-    put "$file" 3216 0fa0
-    put "$file" 3220 0002
-    put "$file" 3224 0003
-    put "$file" 3296 01020304
-    put "$file" 3500 02
-    put "$file" 3502 0001
-    put "$file" 3506 00000001
-    put "$file" 3604 00000001
-    put "$file" 4080 00010002
-}
-
-# little FILE: 3846 bytes, little-endian, revision 2.0, one trace of two 24-bit samples
-little() {
-    local file=$1
-    { zeros 3200 | tr '\0' '\100'; zeros 400; zeros 246; } > "$file"
-    put "$file" 3220 0200
-    put "$file" 3224 0700
-    put "$file" 3296 04030201
-    put "$file" 3500 02
-    put "$file" 3502 0100
-    put "$file" 3840 ffffff000080
-}
-
-# at ORDER FILE PLACE HEX: the number into the file, in that order of bytes
-at() {
-    local hex=$4
-    [ "$1" = big ] || hex=$(fold -w 2 <<< "$4" | tac | tr -d '\n')
-    put "$2" "$3" "$hex"
-}
-
-# float_line FILE ORDER FORMAT MAJOR TRACE..: floats on inline 10 and crosslines 21 and on, a trace for each word: the patterns of its
-# samples in hexadecimal, with commas between them, or `-` for none. Of fixed length where they are equally many and the revision is
-# not 0; the binary header has the first trace's number, and 0 where a trace has none. Bytes 3297-3300 tell the order in revision 2 alone
-float_line() {
-    local file=$1 order=$2 format=$3 major=$4 number=0 trace pattern bytes fixed=1 length first count
-    local -a patterns
-    shift 4
-    IFS=, read -ra patterns <<< "${1#-}"
-    first=${#patterns[@]}
-    case " $* " in *' - '*) count=0 ;; *) count=$first ;; esac
-    { ebcdic_header; zeros 400; } > "$file"
-    at "$order" "$file" 3216 0fa0
-    at "$order" "$file" 3220 "$(printf %04x "$count")"
-    at "$order" "$file" 3224 "$(printf %04x "$format")"
-    put "$file" 3500 "0$major"
-    [ "$major" != 2 ] || at "$order" "$file" 3296 01020304
-    for trace in "$@"; do
-        number=$((number + 1))
-        length=$(wc -c < "$file")
-        IFS=, read -ra patterns <<< "${trace#-}"
-        [ "${#patterns[@]}" = "$first" ] || fixed=0
-        bytes=
-        for pattern in ${patterns[@]+"${patterns[@]}"}; do
-            [ "$order" = big ] || pattern=$(fold -w 2 <<< "$pattern" | tac | tr -d '\n')
-            bytes+=$pattern
-        done
-        { zeros 240; printf "$(sed 's/../\\x&/g' <<< "$bytes")"; } >> "$file"
-        at "$order" "$file" $((length + 4)) "$(printf %08x "$number")"
-        at "$order" "$file" $((length + 114)) "$(printf %04x "${#patterns[@]}")"
-        at "$order" "$file" $((length + 188)) 0000000a
-        at "$order" "$file" $((length + 192)) "$(printf %08x $((20 + number)))"
-    done
-    [ "$major" = 0 ] || at "$order" "$file" 3502 "000$fixed"
 }

@@ -8,7 +8,6 @@ tools=$here/../tools
 SEGYWB=$(realpath "$1")
 export SEGYWB LC_ALL=C
 gnuplot=${GNUPLOT:-gnuplot}
-. "$here/files.sh"
 work=$(mktemp -d)
 trap 'rm -rf "$work"' EXIT
 cd "$work" || exit 1

@@ -98,7 +98,7 @@ uninstall:
 	rm -rf $(INTO)/share/doc/segywb
 
 # Speed: the program as ratios to cp and md5sum of the same file in the same run: the jobs of a repair, loads and saves, reports,
-# slices, floats, renumberings, chosen traces, headers, a volume on disk, Python, the desk, a library of files, and the order of traces at three sizes.
+# slices, floats, renumberings, chosen traces, samples of many, headers, a volume on disk, Python, the desk, a library of files, and the order of traces at three sizes.
 speed: build
 	cd crates/timings && { rt run > out.log 2>&1 || true; }
 	bash speed/jobs $(BUILT)
@@ -109,6 +109,7 @@ speed: build
 	bash speed/floats $(BUILT)
 	bash speed/renumber $(BUILT)
 	bash speed/chosen $(BUILT)
+	bash speed/samples $(BUILT)
 	bash speed/headers $(BUILT)
 	bash speed/disk $(BUILT)
 	bash speed/python $(BUILT)

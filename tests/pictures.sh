@@ -94,9 +94,17 @@ has 'a line for them' page.html '<td>5</td><td>traces 7 to 11: shift 1</td><td><
 printf 'renumber all sequence_file 0 0\n' > script
 runs 'a page of numbers that are 0' 0 '' segywb-report --no-pictures cube.sgy page.html script
 has 'a line for them too' page.html '<code>renumber all sequence_file 1 1</code></td></tr>'
-printf '%s\n' 'table 1 2 inline' 'find all inline 0 999' 'header 1' 'extremes all' 'lines 0' 'stats all where sample_least < 0' 'count all where sample_count = 5' survey 'set 1 scalar 7' problems 'get 99 x' > script
+printf '%s\n' 'table 1 2 inline' 'find all inline 0 999' 'header 1' 'extremes all' 'lines 0' 'stats all where sample_least < 0' 'samples all 0 9' 'samples 1 2 9 9' 'count all where sample_count = 5' survey 'set 1 scalar 7' problems 'get 99 x' > script
 runs 'a page with a script of lists' 1 'segywb-report: 1 line of the script was refused' segywb-report --no-pictures cube.sgy page.html script
-has 'counts its lines' page.html '<code>script</code>: 11 lines with an answer, 1 refused.'
+has 'counts its lines' page.html '<code>script</code>: 13 lines with an answer, 1 refused.'
+
+# samples that end in a refusal, as where FILE is cut off meanwhile, are a refused line; what stands behind them is told
+printf '#!/bin/bash\nset -o pipefail\n"%s" "$@" | sed "s/^9 31 41 .*/refused E14 read failed/; /^1[0-2] 3[2-4] 4[2-4] /d"\n' "$SEGYWB" > failing
+chmod +x failing
+printf '%s\n' 'set 1 scalar 7' 'samples all 0 9' 'samples 1 2 0 9' > script
+SEGYWB=$PWD/failing runs 'a page of samples that are cut off' 1 'segywb-report: 1 line of the script was refused' segywb-report --no-pictures cube.sgy page.html script
+has 'counts its lines' page.html '<code>script</code>: 3 lines with an answer, 1 refused.'
+has 'and tells the refusal' page.html 'E14 read failed'
 printf 'patch 4 0 7 7 7 7 7\npatch 9 2 -30001\n' > script
 runs 'a page of dead and loud traces' 0 '' segywb-report --no-pictures cube.sgy page.html script
 has 'a line that marks the dead ones' page.html '<td>1</td><td>trace 4: value 7</td><td><code>set all trace_code 2 where sample_least = sample_greatest and sample_count &gt; 1</code></td></tr>'

@@ -15,7 +15,7 @@ EXAMPLES = sorted(path.stem for path in (TOP / "examples").glob("*.sgy"))
 MADE = [files.varying, files.stanzas, files.extended, files.empty, *(lambda path, form=form: files.odd_floats(path, form) for form in (1, 5, 6))]
 METHODS = {
     "set": "set", "renumber": "renumber", "compute": "compute", "swap": "swap", "sort": "sort", "get": "get", "map": "map", "unmap": "unmap", "fields": "fields", "bin": "set_bin",
-    "declare": "declare", "drop": "drop_tail", "getbin": "getbin", "text": "set_text", "line": "line", "code": "code", "stanzas": "stanzas", "sample": "sample",
+    "declare": "declare", "drop": "drop_tail", "getbin": "getbin", "text": "set_text", "line": "line", "code": "code", "stanzas": "stanzas", "sample": "sample", "samples": "samples_of",
     "patch": "patch", "fill": "fill", "resize": "resize", "blank": "blank", "copy": "copy", "delete": "delete", "move": "move", "count": "count",
     "info": "info", "geometry": "geometry", "stat": "stat", "stats": "stats", "totals": "totals", "range": "range", "fold": "fold", "grid": "grid",
     "inlines": "inlines", "crosslines": "crosslines", "histogram": "histogram", "slice": "slice", "faults": "faults",

@@ -1,6 +1,4 @@
-"""Sections: the samples of many traces, by each way in which they are asked, and the pictures of
-them.
-"""
+"""Sections: the samples of many traces side by side, and the pictures of them."""
 
 import random
 import struct
@@ -12,15 +10,12 @@ import numpy as np
 import pytest
 
 import segywb
-from segywb import gains, line_ends, many_samples
-from segywb.many_samples import Kind, chosen
+from segywb import gains, many_samples
+from segywb.many_samples import Kind
 from segywb.stream import empty_lines, end_of
 from segywb.thinning import peaks
 
 matplotlib.use("Agg")
-
-WAYS = ("lines", "slices", "aside")
-
 
 def one_by_one(volume, traces):
     """The samples of traces, each asked by a line of its own."""
@@ -42,12 +37,10 @@ def same(one, other):
     )
 
 
-@pytest.fixture(params=WAYS)
-def way(request, monkeypatch):
-    """Each way in turn, whichever is the shortest."""
-    monkeypatch.setattr(
-        many_samples, "chosen", lambda *asked: request.param if asked[1] else "none"
-    )
+@pytest.fixture(params=[1, 20, many_samples.BATCH_VALUES])
+def batch(request, monkeypatch):
+    """So many samples are asked at once."""
+    monkeypatch.setattr(many_samples, "BATCH_VALUES", request.param)
     return request.param
 
 
@@ -81,7 +74,7 @@ def chance_file(path, form, fixed, seed):
 
 @pytest.mark.parametrize("fixed", [True, False])
 @pytest.mark.parametrize("form", [1, 2, 3, 5, 6, 8, 9, 11, 12])
-def test_all_ways_answer_what_the_lines_do(tmp_path, way, form, fixed):
+def test_each_row_has_the_samples_of_its_trace(tmp_path, batch, form, fixed):
     with segywb.open(chance_file(tmp_path / "chance.sgy", form, fixed, form)) as volume:
         volume.move(3, 19)
         volume.delete(11)
@@ -130,7 +123,7 @@ def test_the_selection_and_its_order(opened):
     ]
 
 
-def test_edits_are_seen(opened, way):
+def test_edits_are_seen(opened, batch):
     volume = opened("cube")
     volume.patch(6, 1, [7, -8])
     volume.copy(6, 1)
@@ -213,32 +206,18 @@ def test_times(tmp_path):
         ]  # none is told: the numbers of the samples
 
 
-def test_an_aside_is_seen_nowhere(opened, monkeypatch):
-    """Neither in the session nor in the edits; and where it fails the volume goes on."""
-    monkeypatch.setattr(many_samples, "chosen", lambda *asked: "aside")
+def test_other_questions_go_on_meanwhile(opened):
     volume = opened("cube")
-    pid, path = volume.pid, volume.path
-    assert volume.section([2, 5]).array.tolist() == one_by_one(volume, [2, 5])
-    assert volume.pid == pid and volume.edits == [] and len(volume) == 12 and volume.undoable == 0
     reading = volume.section_reading([1, 2], coarse=2)
     reading.more(2)
-    assert (
-        0 < reading.part < 1 and volume.get(1, "inline") == 101
-    )  # other questions go on meanwhile
-    reading.close()
-    left = volume.section_reading([1, 2])
-    left.more(2)
-    with open(path, "ab") as file:
-        file.write(b"x")
-    with pytest.raises(segywb.FileChanged):
-        volume.section([2, 5])
-    assert len(volume) == 12
-    volume.close()  # and with it the second session that was left
+    assert 0 < reading.part < 1 and volume.get(1, "inline") == 101
+    reading.more()
+    assert reading.done and reading.section.array.tolist() == one_by_one(volume, [1, 2])
 
 
 @pytest.mark.parametrize("coarse", [1, 2, 3, 100])
 @pytest.mark.parametrize("fixed", [True, False])
-def test_a_reading_in_pieces(tmp_path, way, fixed, coarse):
+def test_a_reading_in_pieces(tmp_path, batch, fixed, coarse):
     """What is not there yet shows the sample before it; in the end all is as it is when it is read
     at once.
     """
@@ -268,87 +247,46 @@ def test_a_reading_in_pieces(tmp_path, way, fixed, coarse):
             assert reading.done and np.ma.allequal(reading.section.array, wanted.array)
 
 
-@pytest.mark.parametrize(
-    ("glance", "rows"),
-    [(230, range(0, 60, 6)), (10**6, range(0, 60, 2)), (160, range(0, 0)), (0, range(0, 0))],
-)
-def test_a_glance(tmp_path, monkeypatch, glance, rows):
-    """A few samples of each trace are there before a second session begins, where they are enough
-    for a picture.
-    """
-    chance = random.Random(5)
-    traces = [
-        files.trace(n, 1, n, [chance.randint(-99, 99) for _ in range(60 - n % 3)])
-        for n in range(1, 31)
-    ]
-    files.write(tmp_path / "chance.sgy", files.header(), files.binary(samples=60, fixed=0), *traces)
-    monkeypatch.setattr(many_samples, "chosen", lambda *asked: "aside")
-    where = list(range(25, 2, -1))
-    with volume_of(tmp_path) as volume:
-        wanted = np.ma.getdata(volume.section_of(where).array)
-        reading = volume.section_reading(where, 2, glance)
-        assert reading.begins and reading.part == 0
-        if rows:
-            reading.more(1)
-            assert reading.begins and not volume._engine._others
-            assert reading.part == pytest.approx(len(rows) / 60)
-            found = np.ma.getdata(reading.section.array)
-            assert found[:, rows].tolist() == wanted[:, rows].tolist()
-        reading.more(1)
-        assert not reading.begins and len(volume._engine._others) == 1
-        assert reading.part == pytest.approx((len(rows) + 1) / 60)
+@pytest.mark.parametrize("pieces", range(4))
+def test_all_that_is_left_of_a_reading(tmp_path, pieces):
+    """At once, whatever is there by then."""
+    where = [22, 1, 7, 19, 2]
+    with segywb.open(chance_file(tmp_path / "chance.sgy", 3, False, 9)) as volume:
+        wanted = volume.section_of(where)
+        reading = volume.section_reading(where, coarse=4)
+        for _ in range(pieces):
+            reading.more(10)
         reading.more()
-        assert reading.done and not reading.begins and not volume._engine._others
-        assert np.ma.getdata(reading.section.array).tolist() == wanted.tolist()
-        at_once = volume.section_reading(where, 2, glance)
-        at_once.more()
-        assert at_once.done and np.ma.getdata(at_once.section.array).tolist() == wanted.tolist()
-
-
-def test_the_other_traces_are_taken_away_by_runs(opened, monkeypatch):
-    """Whatever was edited before: those that follow one another by one line."""
-    monkeypatch.setattr(many_samples, "chosen", lambda *asked: "aside")
-    sent, volume = [], opened("cube")
-    volume.move(12, 1)
-    real = many_samples._deletions
-
-    def told(gone):
-        for lines, count in real(gone):
-            sent.append(lines)
-            yield lines, count
-
-    monkeypatch.setattr(many_samples, "_deletions", told)
-    for where in ([2, 5, 6], [1], [12], [1, 12], list(range(1, 13)), [3, 4, 5]):
-        assert volume.section(where).array.tolist() == one_by_one(volume, where)
-    assert sent == [
-        b"delete 7 12\ndelete 3 4\ndelete 1 1\n",
-        b"delete 2 12\n",
-        b"delete 1 11\n",
-        b"delete 2 11\n",
-        b"delete 6 12\ndelete 1 2\n",
-    ]
+        assert reading.done and reading.part == 1
+        assert np.ma.allequal(reading.section.array, wanted.array)
+        reading.more()
+        reading.more(3)
+        assert reading.done
 
 
 def volume_of(folder):
     return segywb.open(folder / "chance.sgy")
 
 
-def test_which_way():
-    """A few samples by lines; a great part of the file by slices; a line of a large file aside,
-    where the file can be read twice.
-    """
-    assert chosen(1, 1500, 1500, 10**6, 10**9) == "lines"
-    assert chosen(1000, 1500000, 1500, 1000, 3 * 10**6) == "slices"
-    assert chosen(1000, 1500000, 1500, 10**5, 3 * 10**8) == "aside"
-    assert chosen(1000, 1500000, 1500, 10**5, None) == "lines"
+# ---- what stands in the rows of an answer
 
 
-# ---- the numbers at the ends of lines
+def rows_of(words, kind, sizes):
+    """The rows of traces that have so many of these words each, read back."""
+    parts, left = [], list(words)
+    for trace, size in enumerate(sizes, 1):
+        parts.append(" ".join([str(trace), *left[:size]]))
+        del left[:size]
+    assert not left
+    return many_samples.rows("".join(f"{part}\n" for part in parts).encode(), kind)
 
 
-def ends_of(words):
-    text = line_ends.bytes_of(b"".join(b"row 1 2 3 " + word.encode() + b"\n" for word in words))
-    return text, np.flatnonzero(text == 10)
+def parts_of(chance, count):
+    """Sizes that are so much together."""
+    sizes = []
+    while sum(sizes) < count:
+        sizes.append(min(chance.randint(0, 9), count - sum(sizes)))
+    return sizes
 
 
 def test_whole_numbers():
@@ -367,14 +305,13 @@ def test_whole_numbers():
         2**63 - 1,
         -(2**63),
     ] + [chance.randint(-(10**k), 10**k) for k in range(19) for _ in range(20)]
-    text, ends = ends_of(map(str, numbers))
-    values, starts = line_ends.whole(text, ends)
-    assert values.tolist() == numbers and values.dtype == np.int64
-    assert [text[start:end].tobytes().decode() for start, end in zip(starts, ends)] == list(
-        map(str, numbers)
-    )
-    text, ends = ends_of(map(str, [2**64 - 1, 0, 2**63]))
-    assert line_ends.whole(text, ends, True)[0].tolist() == [2**64 - 1, 0, 2**63]
+    sizes = parts_of(chance, len(numbers))
+    found = rows_of(map(str, numbers), Kind("i8", False), sizes)
+    assert found.values.tolist() == numbers and found.values.dtype == np.int64
+    assert found.sizes.tolist() == sizes
+    assert found.traces.tolist() == list(range(1, len(sizes) + 1))
+    greatest = [2**64 - 1, 0, 2**63]
+    assert rows_of(map(str, greatest), Kind("u8", False), [1, 2]).values.tolist() == greatest
 
 
 @pytest.mark.parametrize("narrow", [False, True])
@@ -405,42 +342,29 @@ def test_decimals(narrow):
     words += [
         str(np.float32(chance.uniform(-1, 1) * 10 ** chance.randint(-4, 9))) for _ in range(2000)
     ]
-    text, ends = ends_of(words)
-    values, starts = line_ends.decimals(text, ends, narrow)
+    sizes = parts_of(chance, len(words))
+    found = rows_of(words, Kind("f4" if narrow else "f8", True), sizes)
     wanted = np.array(
         [segywb.answers.floating(word, narrow and abs(float(word)) < 3e38) for word in words]
     )
     with np.errstate(over="ignore"):
-        assert same(values, wanted.astype(np.float32) if narrow else wanted)
-    assert [text[start:end].tobytes().decode() for start, end in zip(starts, ends)] == words
+        assert same(found.values, wanted.astype(np.float32) if narrow else wanted)
+    assert found.sizes.tolist() == sizes and found.traces.tolist()[-1] == len(sizes)
 
 
-@pytest.mark.parametrize(
-    "answer",
-    [
-        b"",
-        b"slice 1\n\n",
-        b"slice 2\nrow 1 2 3 4\n\n",
-        b"slice x\n\n",
-        b"value 7\n\n",
-        b"slice 0\n\nslice 0\n\n",
-    ],
-)
-def test_other_answers_are_no_slices(answer):
+@pytest.mark.parametrize("kind", [Kind("i8", False), Kind("u8", False), Kind("f8", True)])
+def test_no_rows(kind):
+    found = many_samples.rows(b"", kind)
+    assert [len(one) for one in found] == [0, 0, 0] and found.values.dtype == kind.dtype
+    alone = many_samples.rows(b"7\n9\n", kind)
+    assert [one.tolist() for one in alone] == [[7, 9], [0, 0], []]
+
+
+@pytest.mark.parametrize("kind", [Kind("i8", False), Kind("u8", False), Kind("f4", True)])
+@pytest.mark.parametrize("text", [b"1 x\n", b"1 5 1x\n", b"\n", b"1 5 \n", b"x\n", b"1 5"])
+def test_what_is_no_row(text, kind):
     with pytest.raises(segywb.ProgramEnded):
-        line_ends.lists(line_ends.bytes_of(answer), b"slice ", 1)
-
-
-@pytest.mark.parametrize("word", ["", "x", "1x", "12345678901234567890123"])
-def test_what_is_no_number(word):
-    text, ends = ends_of(["5", word])
-    with pytest.raises(segywb.ProgramEnded):
-        values, starts = line_ends.whole(text, ends)
-        line_ends.whole(text, starts - 1)
-        raise segywb.ProgramEnded("") if (text[starts - 1] != 32).any() else AssertionError(values)
-    if word != "12345678901234567890123":
-        with pytest.raises(segywb.ProgramEnded):
-            line_ends.decimals(text, ends)
+        many_samples.rows(text, kind)
 
 
 @pytest.mark.parametrize("seed", range(20))

@@ -182,6 +182,11 @@ def test_words(opened):
     field.send_keys("get 1 sample_l")
     page.wait(lambda: "sample_least" not in [one.text for one in page.all("#choices .word")])
     field.clear()
+    field.send_keys("samples all 0 1 where crossl")
+    page.wait(lambda: "crossline" in [one.text for one in page.all("#choices .word")])
+    assert page.text("usage").startswith("samples P Q FROM TO [STEP]")
+    field.send_keys(Keys.TAB, "= 202", Keys.ENTER)
+    assert page.answer("samples all 0 1 where crossline = 202") == "samples 3\n2 12 42\n6 22 42\n10 32 42"
     field.send_keys("getbin inte")
     page.wait(lambda: [one.text for one in page.all("#choices .word")] == ["interval"])
     field.send_keys(Keys.TAB, Keys.ENTER)

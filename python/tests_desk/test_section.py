@@ -15,7 +15,9 @@ from test_page import survey
 import segywb
 from segywb import gains
 from segywb.desk import sections
+from segywb.desk.desk import shown
 from segywb.desk.sections import Asked, Look, Sections, Window, automatic, choose, part
+from segywb.desk.words import words
 
 PLAIN = gains.Gain(percentile=100)
 ALL = Window(0, 0, 0, 0, 600, 400)
@@ -388,7 +390,6 @@ def test_a_large_section_takes_every_manieth_trace(tmp_path, monkeypatch):
 
 def test_a_section_is_shown_while_it_is_read(desk, monkeypatch):
     """Other questions go on meanwhile; an edit of headers alone lets the reading go on, another one begins it anew."""
-    monkeypatch.setattr(sections, "PIECE_ASKED", 2000)
     monkeypatch.setattr(sections, "PIECE", 2000)
     maker, told_of = Sections(0.0), Asked("", None, 1, 0)
     whole = Sections().view(desk, told_of, ALL, look())
@@ -413,20 +414,31 @@ def test_a_section_is_shown_while_it_is_read(desk, monkeypatch):
         answer == Sections().view(desk, told_of, ALL, look())
         and maker.view(desk, told_of, ALL, look()) == answer
     )
-    monkeypatch.setattr("segywb.many_samples.chosen", lambda *asked: "aside")
     wide, narrow = Asked("", None, 1, 90), Asked("", None, 1, 80)
-    others = desk.volume._engine._others
-    part_ = maker.view(desk, wide, ALL, look())[0]["read"]
-    assert 0 < part_ < 1 and not others  # a few samples of each trace come first
-    assert maker.view(desk, wide, ALL, look())[0]["read"] > part_ and len(others) == 1
-    for _ in range(2):  # the other one is given up, with its second session
-        maker.view(desk, narrow, ALL, look())
-    assert len(others) == 1
-    for _ in range(100):
+    assert 0 < maker.view(desk, wide, ALL, look())[0]["read"] < 1
+    for _ in range(100):  # the other one is given up
         answer = maker.view(desk, narrow, ALL, look())
         if answer[0]["read"] == 1:
             break
-    assert answer == Sections().view(desk, narrow, ALL, look()) and not others
+    assert answer == Sections().view(desk, narrow, ALL, look())
+
+
+def test_an_answer_that_ends_in_a_refusal(desk):
+    """The refusal is what the page gets, and none of the rows in front of it; of a whole answer the first rows."""
+    cut = shown("samples all 0 1", "samples 3\n1 5 6\nrefused E14 read failed")
+    assert (cut["kind"], cut["text"], cut["more"]) == ("refused", "refused E14 read failed", 0)
+    (answer,) = desk.run("samples 1 3 0 0")["answers"]
+    assert answer["kind"] == "query" and answer["text"].startswith("samples 3\n1 ")
+    (answer,) = desk.run("samples 1 0 0 0")["answers"]
+    assert (answer["kind"], answer["text"]) == ("refused", "refused E01 no trace 0 of 200")
+
+
+def test_the_page_knows_the_command():
+    told = words()
+    (command,) = [one for one in told["commands"] if one["word"] == "samples"]
+    assert command["usage"] == "samples P Q FROM TO [STEP] [where A OP B ..]"
+    assert command["told"].startswith("Answers samples N, and then a line for each of the N traces")
+    assert any(one["code"] == "E12" and "samples, patch" in one["when"] for one in told["refusals"])
 
 
 def test_no_traces_and_no_samples(tmp_path):

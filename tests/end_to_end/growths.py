@@ -20,7 +20,7 @@ EARLY = [
     end("P03", 4, "=script refused P03 out of memory"),
 ]
 # what takes no memory: not to be read, nor to be done; of several traces a delete is listed
-WITHOUT = re.compile(r"(count|info|totals|sample.*|geometry.*|stat .*|fold.*|range.*|code.*|drop.*|delete .|get.*@.*|bin.*@.*|lines 9)\Z")
+WITHOUT = re.compile(r"(count|info|totals|sample .*|geometry.*|stat .*|fold.*|range.*|code.*|drop.*|delete .|get.*@.*|bin.*@.*|lines 9)\Z")
 
 
 def may_want(line):

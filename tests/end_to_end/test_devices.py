@@ -250,12 +250,12 @@ THRICE = [
     "move 4 1", "move 2 3 1", "map shot", "map usual", "table 1 3 inline x", "find 1 3 crossline 22 30", "extremes 1 2", "lines 0",
     "table 1 9 inline", "compute 1 3 offset inline * 2", "compute 1 3 offset 7 / delay", "sort 1 3 -crossline", "sort 1 3 nine",
     "fill all 1 1 -7 where crossline > 21", "fill 1 3 0 9 1", "count all where inline = 10", "set all @5:4 7 where crossline > 21",
-    "table all inline where crossline > 99", "stats all", "line 0 1", "sett", "text 1 C LINE", "line 0 1", "unmap mine", "get 2 mine",
+    "table all inline where crossline > 99", "stats all", "samples all 0 1", "samples 1 last 1 9 2 where crossline > 21", "line 0 1", "sett", "text 1 C LINE", "line 0 1", "unmap mine", "get 2 mine",
     "drop tail", "drop head", "drop", "blank 2", "faults", "histogram", "delete 2", "delete 2", "totals", "range x",
 ]
 OF_FLOATS = [
     "sample 1 0", "stat 1", "stat 2", "totals", "slice 0", "slice 1", "patch 1 0 1e-5 nan", "patch 1 0 1e999", "patch 1 0 +1", "stat 1",
-    "slice 1", "resize 1 3", "fill 1 2 0 1 -0.5", "fill 1 2 1 1 1e999", "sample 3 1", "delete 3", "totals", "delete 1", "stat 1", "totals",
+    "slice 1", "samples all 0 1", "resize 1 3", "samples 1 1 1 2", "fill 1 2 0 1 -0.5", "fill 1 2 1 1 1e999", "sample 3 1", "delete 3", "totals", "delete 1", "stat 1", "totals",
 ]
 FLOATS = float_line(
     "little", 6, 2, "3fb999999999999a,c05da80000000000", "7ff8000000000000,fff0000000000000", "8000000000000000,0000000000000001",
@@ -311,9 +311,10 @@ def test_a_write_of_the_answers_is_interrupted(failing, long):
 
 
 @pytest.mark.parametrize("at", [0, 8180, 16370, None])
-def test_a_long_list_fails(room, failing, at):
-    room.put("blanks.sgy", content("s.sgy")[:3600] + bytes(244000))
-    room.put("list", "faults\n")
+@pytest.mark.parametrize("line", ["faults", "samples all 0 1 where @1:4 = 0", "samples all 0 9"])
+def test_a_long_list_fails(room, failing, line, at):
+    room.put("blanks.sgy", content("s.sgy")[:3600] + bytes(488000))
+    room.put("list", f"{line}\n")
     room.put("list.txt", room.run("blanks.sgy", "--script", "list").answers)
     first = len(room.get("list.txt")) - 30 if at is None else at
     failing("answers", first, first + 29, lost("list"), ["blanks.sgy", "--script", "list", "--out", "o.sgy"], "HOLDS=%")

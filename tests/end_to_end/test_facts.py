@@ -552,8 +552,8 @@ def test_refusals(room, line, text):
 # ---- each command that takes conditions does the same of the same traces, however they are chosen: in memory, on disk, in a session that
 # saves between, and of floats
 COMMANDS = [
-    "count all", "table all @1:4 crossline", "find all offset -9 999", "extremes all", "stats all", "set all @9:4 7", "renumber all @1:4 5 5",
-    "compute all @17:4 x / 3", "swap all @21:4 crossline", "count all",
+    "count all", "table all @1:4 crossline", "find all offset -9 999", "extremes all", "stats all", "samples all 0 9", "set all @9:4 7",
+    "renumber all @1:4 5 5", "compute all @17:4 x / 3", "swap all @21:4 crossline", "count all",
 ]
 FILLS = [f"{command} where CHOSEN" for command in COMMANDS + ["fill all 1 1 0"]] + ["stats all"]
 DELETES = [f"{command} where CHOSEN" for command in COMMANDS + ["delete all", "count all"]]

@@ -12,7 +12,7 @@ QUERIES = [
     "grid", "inlines", "crosslines", "histogram", "slice 0", "slice 1", "faults", "fields", "stanzas", "line 0 1", "totals", "range inline",
     "range crossline", "range offset", "range x", "range y", "count", "info", "code 0", "geometry 1", "geometry 2", "stat 1", "stat 2",
     "sample 2 1", "fold 10 21", "fold 11 22", "get 2 @189:4", "getbin @3217:2", "table 1 2 inline @5:4", "find 1 2 crossline 0 30",
-    "header 1", "extremes 1 2", "lines 0", "lines 9",
+    "header 1", "extremes 1 2", "lines 0", "lines 9", "samples 1 2 0 1",
 ]
 EDITS = [
     "set 2 @189:4 7", "set 2 inline 11", "set 2 crossline 5", "set 2 offset 7", "set 3 x -7", "set 3 scalar -100", "set 1 @1:4 258",
@@ -34,6 +34,7 @@ ASKED = [
     "table all inline where sample_count < crossline and sample_greatest > sample_least", "count 1 9 where sample_least = 1",
     "count all where inline = 10", "count 1 2 where @1:8 > 7 and inline != 10", "table all inline where crossline > 21",
     "find all offset 0 200 where crossline != 21", "extremes all where crossline = 22", "stats 1 2", "stats all where crossline > 21",
+    "samples 1 3 0 1", "samples all 0 9 2 where crossline > 21", "samples 1 2 0 1 where sample_least < 0", "samples 1 9 0 1",
     "table 1 2 inline x @189:4", "table 2 2 @1:8", "find 1 2 crossline 21 22", "find 1 2 @1:8 7 8", "header 2", "extremes 1 2", "lines 0",
 ]
 TWELVE = changed(content("s.sgy")[:3600] + bytes(528), "3220 000c")
@@ -239,6 +240,7 @@ READ_AS = [
     (DEEP, "blank 1", "sort 1 2 @3.1:4", "sort 1 3 @3.1:4"),
     (SURVEY, MAP, "header 4", "header 5"),
     (SURVEY, MAP, "extremes 2 4", "extremes 4 4"),
+    (SURVEY, MAP, "samples 2 4 0 1", "samples 4 4 0 1"),
 ]
 
 
@@ -272,7 +274,7 @@ WANTING = [
     "map mine @17:4", "bin interval 2000", "getbin interval", "get 1 inline", "text 1 NO C", "unmap mine", "line 0 1", "stanzas", "fields",
     "grid", "inlines", "crosslines", "histogram", "survey", "slice 1", "faults", "problems", "count all where inline = 10",
     "table 1 2 inline x @189:4", "find 1 2 crossline 21 22", "header 2", "extremes 1 2", "lines 0", "compute 1 3 inline crossline * 2 + 7",
-    "sort 1 3 -crossline", "swap all inline crossline where offset > 100", "fill all 0 1 -9", "stats 1 2",
+    "sort 1 3 -crossline", "swap all inline crossline where offset > 100", "fill all 0 1 -9", "stats 1 2", "samples 1 2 0 1",
 ]
 
 

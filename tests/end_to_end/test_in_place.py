@@ -33,7 +33,7 @@ REPAIRS = [
     ("one number", "s.sgy", "set 2 @189:4 7\nget 2 @189:4\n", ""),
     ("a number and the old one again", "s.sgy", "set 2 @189:4 7\nset 2 @189:4 10\n", ""),
     ("no edit", "s.sgy", "", ""),
-    ("nothing but queries and refused lines", "s.sgy", "info\nfaults\nbogus\nset 9 inline 1\n", ""),
+    ("nothing but queries and refused lines", "s.sgy", "info\nfaults\nsamples all 0 1\nbogus\nset 9 inline 1\nsamples 1 9 0 1\n", ""),
     (
         "headers, samples and a refused line", "s.sgy",
         "renumber 1 3 @1:4 100 5\ncompute 1 3 x x + 7\npatch 2 0 7 8\nbin interval 2000\nbogus\nset 3 @237:4 -1\n", "",

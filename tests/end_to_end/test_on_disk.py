@@ -20,6 +20,7 @@ QUERIES = [
     "find 1 3 inline 7 7", "geometry 1", "stat 2", "count all where inline = 7", "table all crossline where inline != 7 and @1:4 >= 0",
     "find all inline 0 99 where crossline > 21", "extremes all where crossline > 21", "survey", "count all where sample_least < 0",
     "table all crossline where sample_greatest >= 5 and sample_count < crossline", "stats all where sample_least = sample_greatest",
+    "samples all 0 9", "samples 2 last 1 65535 2 where inline != 7", "samples 1 9 0 1",
 ]
 EDITS = [
     "blank 1", "copy 2 1", "delete 3", "move 1 2", "renumber 1 2 inline 100 5", "compute 1 2 crossline inline * 2", "map inline @189:4",
@@ -28,13 +29,13 @@ EDITS = [
     "compute all inline crossline + 1 where @5:4 > 7", "swap all inline offset where @5:4 > 7", "fill all 0 1 -9 where @5:4 > 7",
     "fill 1 last 1 1 7", "stats all", "slice 1", "delete all where inline = 10", "grid", "faults", "problems",
     "survey", "fill all 0 0 77 where sample_least = -9", "count all where sample_greatest = 77", "delete all where sample_count > 99",
-    "delete 1 2", "totals",
+    "samples all 0 9", "delete 1 2", "totals", "samples 1 last 1 2 1 where crossline > 21",
 ]
 OF_FLOATS = [
     "info", "sample 1 1", "stat 1", "stat 2", "totals", "slice 0", "patch 1 0 nan -1e-5", "patch 2 0 1e999", "stat 1", "totals", "slice 0",
     "slice 1", "resize 2 4", "stat 2", "copy 2 1", "blank 1", "move 1 3", "totals", "slice 1", "delete 2", "totals", "faults", "problems",
     "count all where sample_least < -0.5", "table all crossline where 1e-1 < sample_greatest", "count all where sample_greatest = 0",
-    "fill all 0 0 .5 where sample_count > 1", "stats all where sample_greatest >= 5e-1", "delete all where sample_least < -118.5", "count",
+    "samples all 0 9", "samples all 1 9 where sample_least < 1e-1", "fill all 0 0 .5 where sample_count > 1", "stats all where sample_greatest >= 5e-1", "delete all where sample_least < -118.5", "count",
 ]
 OF_NO_TRACE = [
     "info", "set 1 inline 7", "blank 2", "resize 1 3", "move 2 1", "declare", "stanzas", "totals", "grid", "info", "drop head",
@@ -208,6 +209,10 @@ MEANWHILE = [
     ("cut, and a choice", "v.sgy", "", "count all where @1:4 = 0", FAILED, cut),
     ("cut, and an edit of chosen traces", "v.sgy", "", "set all @1:4 7 where @1:4 >= 0", FAILED, cut),
     ("cut, and samples that are filled", "v.sgy", "", "fill all 0 0 7", FAILED, cut),
+    ("cut, and samples of chosen traces", "v.sgy", "", "samples all 0 1 where @1:4 = 0", FAILED, cut),
+    ("cut, and samples of no trace", "v.sgy", "", "samples all 0 1 where inline = 7", "samples 0", cut),
+    ("cut, and samples", "v.sgy", "", "samples 1 2 0 1", "samples 2\n" + FAILED, cut),
+    ("a trace of another length, and its samples", "v.sgy", "", "samples all 0 1", "samples 3\n" + OTHER, other_length),
     # what the samples say is known behind the load
     ("cut, and a choice by samples", "v.sgy", "", "count all where sample_least = 0 and sample_count > 2", "chosen 2", cut),
     ("cut, and a delete by samples", "v.sgy", "", "delete all where sample_count = 2", "ok 1", cut),
@@ -244,6 +249,78 @@ def sparse(room, name, traces):
     """Traces of 30720 samples of two bytes, zeros that take no disk."""
     room.put(name, changed(content("s.sgy")[:3600], "3220 7800"))
     os.truncate(room.path(name), 3600 + traces * (240 + 2 * 30720))
+
+
+# ---- a section whose file is lost in its middle: the rows in front, the refusal, and the next line is answered
+@pytest.fixture
+def long(room):
+    """40 traces on disk, of which the last ones are lost by cut_long."""
+    sparse(room, "long.sgy", 40)
+    return room
+
+
+def cut_long(room):
+    os.truncate(room.path("long.sgy"), 3600 + 25 * 61680)
+
+
+def check_cut_off(lines, chosen=40):
+    """A section that is cut off: some of its rows, in order, and the refusal."""
+    assert lines[0] == f"samples {chosen}" and lines[-1] == FAILED
+    assert lines[1:-1] == [f"{position} 0 0" for position in range(1, len(lines) - 1)]
+    assert 1 <= len(lines) - 2 <= 25
+
+
+@pytest.mark.parametrize(
+    "line, chosen",
+    [("samples all 0 1", 40), ("samples 1 last 5 30000 29995", 40), ("samples all 0 1 where inline = 0", 40), ("samples 1 30 0 1", 30)],
+)
+def test_a_section_whose_file_is_cut_meanwhile(long, line, chosen):
+    with Session(long, "long.sgy", "--on-disk", "--session") as session:
+        assert session.ask("count") == "traces 40"
+        cut_long(long)
+        for _ in range(2):
+            check_cut_off(session.ask(line).split("\n"), chosen)
+            assert session.ask("count") == "traces 40"
+        assert session.ask("samples 1 2 0 0") == "samples 2\n1 0\n2 0"
+        ended = session.end()
+    assert ended.status == 1
+    assert b"was changed by another program" in ended.errors
+
+
+def test_a_section_that_is_cut_off_stops(long):
+    with Session(long, "long.sgy", "--on-disk", "--session", "--stop") as session:
+        assert session.ask("count") == "traces 40"
+        cut_long(long)
+        check_cut_off(session.ask("samples all 0 1").split("\n"))
+        assert session.answer() == ""
+        ended = session.end()
+    assert (ended.status, ended.answers) == (1, b"")
+
+
+SECTION = "samples all 0 1\ncount\n"
+
+
+def section_that_fails(room, library, call):
+    """How a run of a section ends of which one read fails: the load, whole, or cut off, behind how many rows."""
+    ended = failing(room, library, "long.sgy", call, SECTION)
+    if ended.answers == AT_LOAD:
+        return ended.status, "load"
+    *lines, count = ended.answers.decode().splitlines()
+    assert count == "traces 40"
+    if ended.status == 0:
+        assert lines == ["samples 40"] + [f"{position} 0 0" for position in range(1, 41)]
+        return 0, "whole"
+    assert lines[0] == "samples 40" and lines[-1] == FAILED
+    assert lines[1:-1] == [f"{position} 0 0" for position in range(1, len(lines) - 1)]
+    assert ended.told() == ["E14 read failed"]
+    return ended.status, len(lines) - 2
+
+
+# a read of a block that fails is made once more of the trace alone, so that most single failures are not met
+def test_a_section_of_which_a_read_fails(long, fail_device):
+    met = {section_that_fails(long, fail_device, call) for call in range(1, 25)}
+    assert {(3, "load"), (0, "whole")} <= met
+    assert {status for status, _ in met} == {0, 1, 3}
 
 
 # ---- the file changes while it is copied to a pipe, which took a part by then

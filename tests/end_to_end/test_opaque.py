@@ -14,11 +14,11 @@ NO_TRACE = "refused E01 no trace 9 of 2"
 # ---- each format, in both orders and each revision: repaired, saved, compared with the bytes that are wanted, and loaded again
 LINES = (
     "info ; set 2 inline 11 ; set 2 x 123456 ; set 2 scalar -100 ; delete 3 ; renumber 1 2 @5:4 7 2 ; geometry 2 ; inlines ; sample 1 0 ; "
-    "sample 1 9 ; sample 9 0 ; patch 2 1 70000000000 ; patch 2 9 1 ; patch 9 9 1 ; stat 1 ; stat 0 ; totals ; slice 0 ; slice 9 ; bin format 3"
+    "sample 1 9 ; sample 9 0 ; samples 1 2 0 1 ; samples 1 9 0 1 ; patch 2 1 70000000000 ; patch 2 9 1 ; patch 9 9 1 ; stat 1 ; stat 0 ; totals ; slice 0 ; slice 9 ; bin format 3"
 )
 ANSWERS = [
     "ok", "ok", "ok", "ok", "ok", "geometry inline 11 crossline 22 offset 0 x 30864/25 y 0", "inlines 2", "inline 10 1", "inline 11 1",
-    NO_VALUE, NO_VALUE, NO_TRACE, NO_VALUE, NO_VALUE, NO_TRACE, NO_VALUE, "refused E01 no trace 0 of 2", NO_VALUE, NO_VALUE, NO_VALUE,
+    NO_VALUE, NO_VALUE, NO_TRACE, NO_VALUE, NO_TRACE, NO_VALUE, NO_VALUE, NO_TRACE, NO_VALUE, "refused E01 no trace 0 of 2", NO_VALUE, NO_VALUE, NO_VALUE,
     "refused E06 frame",
 ]
 KINDS = [(form, order, major) for major in (0, 1, 2) for order in ("big", "little") for form in (1, 4, 5, 6)]
@@ -82,7 +82,7 @@ EDITS = [
     refused("torn floats", ("bad.sgy", TORN[:-1]), "L14 truncated trace 3", options="--opaque-samples"),
     case(
         "floats without traces", ("bad.sgy", TORN[:3600]),
-        "totals ; slice 0 ; stat 1 ; count", f"{NO_VALUE} / {NO_VALUE} / refused E01 no trace 1 of 0 / traces 0",
+        "totals ; slice 0 ; samples all 0 1 ; stat 1 ; count", f"{NO_VALUE} / {NO_VALUE} / {NO_VALUE} / refused E01 no trace 1 of 0 / traces 0",
         1, options="--opaque-samples",
     ),
 ]
@@ -163,7 +163,7 @@ def test_files(room, row):
 
 def test_integers_under_the_option(room):
     name, _ = placed(room, "s.sgy")
-    script = "sample 1 1\nstat 1\ntotals\nslice 0\npatch 1 0 9\ninfo\nfaults\n"
+    script = "sample 1 1\nstat 1\ntotals\nslice 0\nsamples all 0 1\npatch 1 0 9\ninfo\nfaults\n"
     plain = room.ask(name, script, "--out", "plain.sgy")
     ended = room.ask(name, script, "--opaque-samples", "--opaque-samples", "--out", "o.sgy")
     assert plain.answers.startswith(b"value -2\n")

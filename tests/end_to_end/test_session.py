@@ -111,6 +111,7 @@ REPORTS = (
 HEADERS = (
     "table 1 3 inline crossline @5:4\nset 2 crossline -7\nfind 1 3 crossline -9 21\nheader 2\nextremes 2 3\nlines 0\ntable 1 4 inline\n"
     "find 1 3 nothing 1 2\nlines 1\nheader 4\nmap mine @189:4\nheader 1\nextremes 1 1\nfind 1 3 mine 11 9\ntable 3 3 mine mine\n"
+    "samples all 0 9\nsamples 1 2 1 1 where mine = 10\nsamples 1 4 0 1\nsamples all 0 1 where mine = 77\nsamples 1 3 0\n"
 )
 TRACES = (
     "delete 1\nblank 1\ncopy 2 4\nmove 1 3\npatch 1 0 5 6\nrenumber 1 3 inline 100 5\ninlines\nget 1 inline\nsample 1 1\nbogus\ntotals\nrange x\n"
@@ -123,7 +124,8 @@ AS_RUNS = [
     ("floats as a run", FLOATS, "info\nsample 1 0\nset 1 inline 7\nsample 9 0\nget 1 inline\n", "--opaque-samples"),
     (
         "floats with values as a run", FLOATS,
-        "info\npatch 1 0 -118.625\nsample 1 0\nstat 1\ntotals\npatch 2 0 1e76\npatch 3 0 nan\nslice 0\n", "--floats",
+        "info\npatch 1 0 -118.625\nsample 1 0\nstat 1\ntotals\npatch 2 0 1e76\npatch 3 0 nan\nslice 0\nsamples all 0 9\n",
+        "--floats",
     ),
     ("reports and edits", "s.sgy", REPORTS, ""),
     ("headers", "s.sgy", HEADERS, ""),
@@ -156,6 +158,7 @@ def test_as_a_run(room, file, lines, options):
 # ---- the answer is there before the next line is read
 def test_answers_one_line_at_a_time(room):
     with Session(room, room.make("s.sgy"), "--session") as session:
+        assert session.ask("samples 1 2 0 1") == "samples 2\n1 1 -2\n2 3 4"
         for turn in (1, 2, 3):
             session.send(f"set 1 inline {turn}\nget 1 inline\n".encode())
             assert session.answer() == "ok"
@@ -320,7 +323,7 @@ def test_answers_that_fail(room):
 # ---- each growth of memory is refused in turn: a line is E11 and changes nothing, and all others are answered and saved as without it
 GROWING = [
     "set 1 inline 5", "table 1 3 inline x", "lines 0", "# " + "x" * 150000, "patch 1 0 7", "map mine @9:4" + " " * 70000, "get 1 inline",
-    "text 1 C 1 NOTE", "copy 1 2", "count",
+    "text 1 C 1 NOTE", "copy 1 2", "samples all 0 1", "count",
 ]
 NO_JOURNAL = "segywb: s.sgy: cannot look for a journal beside it (out of memory)\n"
 

@@ -103,6 +103,22 @@ def test_messages_that_go_to_the_same_file(many):
     assert ended.status == 4
 
 
+# ---- answers that nobody reads any more: a list, and a section in its middle
+@ON_DISK
+@pytest.mark.parametrize("way", ["--script lines", "--session"])
+@pytest.mark.parametrize("line", ["table all inline crossline x y", "samples all 0 1"])
+def test_a_pipe_that_breaks(room, way, line, place):
+    room.put("blanks.sgy", content("s.sgy")[:3600] + bytes(244 * 20000))
+    room.put("lines", f"{line}\nset 1 inline 7\n")
+    with open(room.path("lines"), "rb") as lines:
+        running = room.start("blanks.sgy", *way.split(), *place, "--out", "o.sgy", stdin=lines)
+        assert running.stdout.read(10)
+        running.stdout.close()
+        _, errors = running.communicate(timeout=600)
+    assert (running.returncode, errors) == (4, b"segywb: answers failed\n")
+    assert not room.has("o.sgy")
+
+
 def test_a_pipe_has_no_limit(many):
     ended = many.run("s.sgy", "--script", "many", limits=LIMIT)
     assert ended.status == 0
@@ -253,7 +269,7 @@ def test_a_file_of_5_gib(room, way):
 
 
 # ---- a small stack
-LINES = b"count\nset 2 inline 7\nfaults\nslice 0\ntable 1 3 inline x y\ncompute 1 3 inline inline + 1\nsort 1 3 inline\nsave\n"
+LINES = b"count\nset 2 inline 7\nfaults\nslice 0\nsamples all 0 1\ntable 1 3 inline x y\ncompute 1 3 inline inline + 1\nsort 1 3 inline\nsave\n"
 
 
 @pytest.mark.parametrize("way, status", [("--script many", 1), ("--session", 0), ("--session --on-disk", 0)])

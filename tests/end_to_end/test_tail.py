@@ -211,9 +211,9 @@ EDITS = [
     "bin interval 2000", "bin job 5", "declare", "text 3 C 3", "patch 1 0 1", "resize 1 3", "blank 1", "copy 2 3", "copy 1 4", "move 3 1",
     "sort 1 3 -inline", "delete 2", "blank 3", "set 3 inline 12", "count", "faults", "grid", "inlines", "histogram", "totals", "slice 0",
     "stat 1", "header 1", "extremes 1 3", "table 1 3 inline x", "find 1 3 inline 0 9", "stanzas", "line 0 3", "geometry 3", "range x",
-    "fields", "get 9 inline", "unmap mine", "delete 1", "delete 1", "delete 1", "count", "blank 1",
+    "samples all 0 9", "fields", "get 9 inline", "unmap mine", "delete 1", "delete 1", "delete 1", "count", "blank 1",
 ]
-OF_FLOATS = ["patch 1 0 -1.5", "resize 1 3", "copy 1 1", "totals", "stat 2", "slice 0", "delete 3", "move 1 2"]
+OF_FLOATS = ["patch 1 0 -1.5", "resize 1 3", "copy 1 1", "totals", "stat 2", "slice 0", "samples all 0 9", "delete 3", "move 1 2"]
 UNTOUCHED = [
     *[(f"edits of {name}", of(name), 0, EDITS, "") for name in ("s.sgy", "loose.sgy", "x.sgy", "deep.sgy", "t.sgy", "v.sgy", "ended.sgy")],
     ("edits in front of data trailer records", NOTED, 6400, EDITS, ""),

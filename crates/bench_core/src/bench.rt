@@ -1,4 +1,6 @@
-ghost use Rattle.std.specs.Prelude.{◌≡◌, ◌≤◌, true, false, length, IsSome, IsTrue, IfOk, IfErr, OnErr, MatchResult};
+ghost use Rattle.std.specs.Prelude.{◌≡◌, ◌≤◌, ◌↔◌, true, false, length, IsSome, IfSome, IsTrue, IfOk, IfErr, OnErr, MatchResult};
+ghost use Rattle.std.specs.Borrow.{sem};
+ghost use Rattle.frame_cut.specs.Traces.{is_trace};
 ghost use Rattle.std.specs.Io.KnownBytes.{Consumes, IsAtEnd};
 ghost use Rattle.field_map.specs.Binding.{geometry_at_load, HasGeometry};
 ghost use Rattle.frame_cut.specs.Cuts.{IsCut};
@@ -20,7 +22,7 @@ ghost use Rattle.bench_rules.specs.Steps.{Step, told_of};
 use crate::changes::{change, follow, no_slices};
 use bench_rules::{Answer, AskFault, Edit, Items, Query, Refusal};
 use device_io::{Sink, Source};
-use edit_overlay::{PassFault, SaveFault};
+use edit_overlay::{PassFault, ReadFault, SaveFault};
 use float_codes::FloatFormat;
 use frame_cut::{Limits, LoadFault, Reading};
 use live_volume::LiveVolume;
@@ -29,6 +31,7 @@ use std::fs::File;
 use std::io::{Read, Write};
 use std::marker::Model;
 use time_slice::SliceCache;
+use trace_view::TraceView;
 
 /// One volume: a file that was loaded, with the edits that were accepted since, and the slices that
 /// were asked last.
@@ -51,6 +54,9 @@ impl Model for Bench {
 }
 
 impl Bench {
+    ghost use Rattle.edit_overlay.specs.CountedVolume.{HasShapeOf};
+    ghost use Rattle.bench_core.specs.Looked.{EndsLooked};
+
     /// Reads a whole file and cuts it; the field map is then the six geometry names at their
     /// standard places, and no slice is kept. Looks at each trace once at most, for its record.
     /// Takes memory. Refused: L01 where a read failed in this call, L02 to L15 or L17 for the first
@@ -206,6 +212,20 @@ impl Bench {
         }
         let rows = self.volume.slice(alloc, &mut self.slices, k)?;
         Ok(Answer::Slice(Items::new(rows)))
+    }
+
+    /// Trace p, counted from 1, and one look more; None where there is none, and then no look. On
+    /// disk the trace is read, and refused where the file fails or gives other bytes than it gave
+    /// when it was loaded, as far as its length tells. Takes no memory.
+    pub fn look(&mut self, p: u32) -> Result<Option<TraceView<'_>>, ReadFault>
+        ensures* ends { sem 𝓛 (EndsLooked self.entry p result) }
+        ensures there { IfOk result
+            (λ view. IsSome view ↔ IsTrue (is_trace self.old.state.volume p)) }
+        ensures shape { IfOk result (λ view. IfSome view (HasShapeOf self.old.state.volume p)) }
+        ensures read { IfErr result (λ _. IsTrue (is_trace self.old.state.volume p)
+            × IsTrue self.old.state.on_disk) }
+    {
+        self.volume.look(p)
     }
 
     /// Ends the bench: gives back the memory of its volume, and closes a file on disk. Who owns a

@@ -6,6 +6,9 @@
 //! bytes in a header from 1, samples of a trace from 0. A refused edit or query leaves the state
 //! and the kept slices as they are.
 //!
+//! A query for samples of many traces (`Samples`) is answered by which samples of which traces they
+//! are; who tells them looks at one trace after another (`look`).
+//!
 //! A bench holds a volume whose reports follow each edit, which it lends (`live_volume`), and
 //! beside it the last 8 slices that were asked. A slice stays kept as long as no edit can have
 //! changed it, and is then answered without a look at any trace.
@@ -24,6 +27,6 @@ mod changes;
 pub use crate::bench::Bench;
 pub use bench_rules::{
     Answer, AskFault, Chosen, ChosenEdit, ChosenQuery, Comparison, Condition, Edit, Extremes,
-    Field, FloatTraceStatistics, Info, Items, Mapping, Operand, Operator, Query, Refusal, Side,
-    Table, Text, TraceStatistics,
+    Field, FloatTraceStatistics, Info, Items, Mapping, Operand, Operator, Query, Refusal,
+    SampleRange, Section, Side, Table, Text, TraceStatistics,
 };

@@ -353,6 +353,7 @@ each_answer_silent v fields (chosen_queries.Table names) ps = table_of_each_sile
 each_answer_silent v fields (chosen_queries.Find f low high) ps = found_of_each_silent v ps low high (place_in_trace fields f)
 each_answer_silent v fields chosen_queries.Extremes ps = tt
 each_answer_silent v fields chosen_queries.Stats ps = of_values_silent v.head (Ok (statistics_of_each (has_floats v.head) v ps)) tt
+each_answer_silent v fields (chosen_queries.Samples range) ps = of_values_silent v.head (Ok _) tt
 
 chosen_answer_silent : (v : Volume) (fields : Pairs) (query : ChosenQuery) (o : Option (List ℕ)) → SilentReply (answer_of_chosen v fields query o)
 chosen_answer_silent v fields query None = refl

@@ -26,7 +26,7 @@ use Rattle.bench_rules.specs.Refused.{first_refusal}
 use Rattle.bench_rules.specs.State.{State}
 
 -- three traces of inline 10, crosslines 21 to 23 and offsets 100, 200 and 300
-abbrev loaded : State
+abbrev pub loaded : State
 loaded = record { volume = volume_plain; fields = geometry_at_load; reading = as_written; limits = wide_limits; on_disk = false }
 
 -- crossline >= 22
@@ -38,11 +38,11 @@ abbrev below_300 : Condition
 below_300 = record { left = side.Operand (operand.Field (field.Name (codes "offset"))); comparison = Less; right = side.Operand (operand.Number (pos 300)) }
 
 -- a byte that no trace has
-abbrev far : Condition
+abbrev pub far : Condition
 far = record { left = side.Operand (operand.Field (field.Place (signed_at 240 4))); comparison = Unequal; right = side.Operand (operand.Number (pos 0)) }
 
 -- a name of nothing
-abbrev unknown : Condition
+abbrev pub unknown : Condition
 unknown = record { left = side.Operand (operand.Field (field.Name (codes "crosline"))); comparison = Unequal; right = side.Operand (operand.Number (pos 0)) }
 
 pub chosen-one : chosen volume_plain geometry_at_load (record { traces = Some (1, 3); conditions = from_22 ∷ [] }) ≡ Some (2 ∷ 3 ∷ [])

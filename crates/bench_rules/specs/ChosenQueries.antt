@@ -11,7 +11,7 @@ use Rattle.bench_rules.specs.declared.ask_fault.AskFault.{AskFault}
 use Rattle.bench_rules.specs.declared.ask_fault.AskFault.TheVariants.{NoField, NoPlace, NoValues}
 use Rattle.bench_rules.specs.declared.chosen.Chosen.{Chosen}
 use Rattle.bench_rules.specs.declared.chosen_query.ChosenQuery.{ChosenQuery}
-use Rattle.bench_rules.specs.declared.chosen_query.ChosenQuery.TheVariants.{Count, Table, Find, Extremes, Stats}
+use Rattle.bench_rules.specs.declared.chosen_query.ChosenQuery.TheVariants.{Count, Table, Find, Extremes, Stats, Samples}
 use Rattle.bench_rules.specs.declared.extremes.Extremes.{Extremes as ExtremesOfNumbers}
 use Rattle.bench_rules.specs.declared.test.Test.{Test}
 use Rattle.bench_rules.specs.Conditions.{chosen_among, lacks_values, range_of, tests_of}
@@ -20,6 +20,7 @@ use Rattle.bench_rules.specs.ManyTraces.{each_of}
 use Rattle.bench_rules.specs.Places.{place_in_trace}
 use Rattle.bench_rules.specs.Replies.{Reply, of_traces, or_fault}
 use Rattle.bench_rules.specs.SampleStatistics.{stats_answer_of_each}
+use Rattle.bench_rules.specs.Sections.{section_answer_of_each}
 use Rattle.bench_rules.specs.Tables.{is_between, row_of}
 
 -- for each of these traces its position and its numbers at these places; nothing where one of them lacks a place
@@ -49,6 +50,7 @@ asks_for_fields fields (Table names) = is_some (each_of (place_in_trace fields) 
 asks_for_fields fields (Find field low high) = is_some (place_in_trace fields field)
 asks_for_fields fields Extremes = true
 asks_for_fields fields Stats = true
+asks_for_fields fields (Samples range) = true
 
 -- the table at the places of fields, if each has one
 abbrev pub table_answer_of_each : Volume → List ℕ → Option (List Place) → Reply
@@ -67,6 +69,7 @@ answer_of_each v fields (Table names) ps = table_answer_of_each v ps (each_of (p
 answer_of_each v fields (Find field low high) ps = found_answer_of_each v ps low high (place_in_trace fields field)
 answer_of_each v fields Extremes ps = Ok (answers.Extremes (extremes_of_each v (named_places fields) ps))
 answer_of_each v fields Stats ps = stats_answer_of_each v ps
+answer_of_each v fields (Samples range) ps = section_answer_of_each v range ps
 
 -- the same where these are the chosen traces: E03 where a trace of the range lacks the place of a condition
 abbrev pub answer_of_chosen : Volume → Pairs → ChosenQuery → Option (List ℕ) → Reply

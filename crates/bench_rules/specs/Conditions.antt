@@ -62,7 +62,7 @@ test_in h t test = test_by h t (amplitudes_at h t) test
 
 -- ---- all conditions
 
--- the conditions with the places of their fields, where each has one
+-- the conditions with the places of their fields, where each field has one or names a fact, and the sides of each condition can be compared
 abbrev pub tests_of : Pairs → List Condition → Option (List Test)
 tests_of fields conditions = each_of (test_of fields) conditions
 
@@ -74,7 +74,7 @@ asks_values test = is_extreme test.left || is_extreme test.right
 abbrev pub lacks_values : Format → List Test → Bool
 lacks_values format tests = list_any asks_values tests && is_none (values_of format)
 
--- the conditions with the places of their fields, where each has one, and samples have the values that they ask for
+-- the same where samples have the values that they ask for, too
 abbrev pub asked_tests : Format → Pairs → List Condition → Option (List Test)
 asked_tests format fields conditions = option_and_then (λ tests. if lacks_values format tests then None else Some tests) (tests_of fields conditions)
 
@@ -101,8 +101,8 @@ abbrev pub range_of : Option (ℕ × ℕ) → List ℕ
 range_of None = []
 range_of (Some r) = positions r.0 r.1
 
--- the traces that are chosen; nothing where a field has no place, samples have no values that are asked for, or a trace of the range
--- lacks a place
+-- the traces that are chosen; nothing where a condition has no place or cannot be compared, samples have no values that are asked for, or
+-- a trace of the range lacks a place
 abbrev pub chosen : Volume → Pairs → Chosen → Option (List ℕ)
 chosen v fields c = option_and_then (λ tests. chosen_among v tests (range_of c.traces)) (asked_tests v.head.format fields c.conditions)
 

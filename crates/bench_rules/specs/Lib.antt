@@ -61,3 +61,5 @@ pub mod RangeRefusals
 pub mod SampleFacts
 pub mod SampleStatistics
 pub mod SampleStatisticsExamples
+pub mod Sections
+pub mod SectionExamples

@@ -87,13 +87,14 @@ each_looks fields chosen_edits.Delete n = 0
 each_looks fields (chosen_edits.Swap first second) n = 2 * n
 each_looks fields (chosen_edits.Fill first last x) n = 2 * n
 
--- the looks of a query about so many
+-- the looks of a query about so many; samples are looked at when they are told, one trace after another
 abbrev pub asking_looks : ChosenQuery → ℕ → ℕ
 asking_looks chosen_queries.Count n = 0
 asking_looks (chosen_queries.Table fields) n = n
 asking_looks (chosen_queries.Find field low high) n = n
 asking_looks chosen_queries.Extremes n = n
 asking_looks chosen_queries.Stats n = n
+asking_looks (chosen_queries.Samples range) n = 0
 
 -- the looks at traces that are chosen, where they are
 abbrev pub looks_at_chosen : (ℕ → ℕ) → Option (List ℕ) → ℕ

@@ -5,6 +5,7 @@ use crate::items::Items;
 use crate::location::Location;
 use crate::problem_line::ProblemLine;
 use crate::row::Row;
+use crate::section::Section;
 use crate::table::Table;
 use crate::text::Text;
 use crate::trace_statistics::{FloatTraceStatistics, TraceStatistics};
@@ -78,4 +79,6 @@ pub enum Answer {
     Stats(Items<TraceStatistics>),
     /// The same where samples are floats.
     FloatStats(Items<FloatTraceStatistics>),
+    /// Which samples are told, of which traces.
+    Section(Section),
 }

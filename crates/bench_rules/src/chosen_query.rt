@@ -1,5 +1,6 @@
 use crate::field::Field;
 use crate::items::Items;
+use crate::sample_range::SampleRange;
 
 /// What is asked of chosen traces.
 #[derive(Drop)]
@@ -17,4 +18,6 @@ pub enum ChosenQuery {
     Extremes,
     /// The statistics of the samples of each of them. Refused: E12.
     Stats,
+    /// Those of the samples of each of them that the range names. Refused: E12.
+    Samples(SampleRange),
 }

@@ -36,7 +36,9 @@ mod renumber;
 mod resize;
 mod row;
 mod sample_fact;
+mod sample_range;
 mod samples;
+mod section;
 mod side;
 mod side_value;
 mod table;
@@ -81,15 +83,17 @@ pub use crate::renumber::{counted_up, renumber_refusal, values_bytes};
 pub use crate::resize::{count_refusal, resized};
 pub use crate::row::Row;
 pub use crate::sample_fact::{SampleFact, fact_value};
+pub use crate::sample_range::SampleRange;
 pub use crate::samples::{
     float_stat, patch_refusal, sample_place, sample_value_refusal, samples_refusal,
     statistics_of_floats, trace_sample,
 };
+pub use crate::section::Section;
 pub use crate::side::Side;
 pub use crate::side_value::SideValue;
 pub use crate::table::Table;
 pub use crate::term::Term;
-pub use crate::test::{Test, lacks_values, meets_all, test_of};
+pub use crate::test::{Test, ask_values, lacks_values, meets_all, test_of};
 pub use crate::test_side::TestSide;
 pub use crate::text::Text;
 pub use crate::text_lines::is_line;

@@ -73,8 +73,8 @@ pub enum Query {
     Extremes(u32, u32),
     /// A query for the traces that are chosen. Refused, in this order: E01 for the first trace of
     /// the range, E01 for its last, E02 where a field of the query or of a condition has no place,
-    /// E03 where a trace of the range lacks the place of a condition, then what the query refuses
-    /// of the chosen traces. The list of the chosen traces takes memory, so that E11 may come in
-    /// the place of any refusal but E01.
+    /// E12 where a condition asks for values of samples and these have none, E03 where a trace of
+    /// the range lacks the place of a condition, then what the query refuses of the chosen traces.
+    /// The list of these takes memory, so that E11 may come in the place of any refusal but E01.
     OfChosen(Chosen, ChosenQuery),
 }

@@ -76,8 +76,8 @@ pub fn lacks_values(format: Format, tests: &[Test]) -> bool
     ask_values(tests) && format.values().is_none()
 }
 
-// Whether one of the conditions is on the least or the greatest sample.
-fn ask_values(tests: &[Test]) -> bool
+/// Whether one of the conditions is on the least or the greatest sample. Takes no memory.
+pub fn ask_values(tests: &[Test]) -> bool
     ensures { result ≡ list_any asks_values_of tests.now }
 {
     for test in tests {

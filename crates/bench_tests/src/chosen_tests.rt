@@ -3,7 +3,7 @@ use crate::report_tests::on_survey;
 use crate::tests::{has, meets, shows, signed};
 use bench_core::{
     Answer, AskFault, Bench, Chosen, ChosenEdit, ChosenQuery, Comparison, Condition, Edit, Field,
-    Items, Operand, Query, Refusal, Side, Text,
+    Items, Operand, Query, Refusal, SampleRange, Side, Text,
 };
 use std::alloc::{AllocError, Global};
 use std::process::Abort;
@@ -163,5 +163,40 @@ fn chooses_traces_by_their_samples(rt: HostRuntime) -> Result<(), Fail> {
     on_survey(
         alloc,
         &mut |bench: &mut Bench| count_by_samples(&rt, alloc, bench),
+    )
+}
+
+// Of how many traces samples are told, and from which one on.
+fn told(asked: &Result<Answer, AskFault>) -> Option<(usize, u32)> {
+    match asked {
+        Ok(Answer::Section(section)) => {
+            Some((section.traces.as_slice().len(), section.samples.from))
+        }
+        _ => None,
+    }
+}
+
+// The answer names the traces and looks at none; each of them is then looked at once.
+fn ask_for_samples(rt: &impl Abort, alloc: Global, bench: &mut Bench) {
+    let range = SampleRange {
+        from: 1,
+        to: 9,
+        step: 2,
+    };
+    let before = bench.volume().looks();
+    let query = Query::OfChosen(behind(alloc), ChosenQuery::Samples(range));
+    assert!(rt; told(&bench.ask(alloc, &query)) == Some((2, 1)));
+    assert!(rt; bench.volume().looks() == before);
+    assert!(rt; matches!(bench.look(2), Ok(Some(_))));
+    assert!(rt; matches!(bench.look(4), Ok(None)));
+    assert!(rt; bench.volume().looks() == before.saturating_add(1));
+}
+
+#[test]
+fn tells_samples_of_chosen_traces(rt: HostRuntime) -> Result<(), Fail> {
+    let alloc = rt.alloc();
+    on_survey(
+        alloc,
+        &mut |bench: &mut Bench| ask_for_samples(&rt, alloc, bench),
     )
 }

@@ -13,10 +13,10 @@ inlines_apart span = option_map (λ s. (s, pos 0)) span.step
 abbrev pub crosslines_apart : LineSpan → Option (ℤ × ℤ)
 crosslines_apart span = option_map (λ s. (pos 0, s)) span.step
 
--- the inlines of these traces in one line; nothing of no trace
+-- the first and the last of the inlines of these traces that are not far from the others, and the step from one to the next; nothing of no trace
 unfoldable pub inline_span_of : List Facts → Option LineSpan
 inline_span_of fs = span_of (inlines fs)
 
--- their crosslines in one line
+-- the same of their crosslines
 unfoldable pub crossline_span_of : List Facts → Option LineSpan
 crossline_span_of fs = span_of (crosslines fs)

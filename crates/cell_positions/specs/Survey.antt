@@ -20,7 +20,7 @@ is_within span n = int_le span.first n && int_le n span.last
 abbrev pub lines_in : LineSpan → ℕ
 lines_in span = option_map_or (λ s. unsigned_abs (span.last -ℤ span.first) / unsigned_abs s + 1) span.step 1
 
--- how many cells have an inline and a crossline among these
+-- how many cells have an inline between the first and the last inline, and a crossline between the first and the last crossline
 abbrev pub cells_within : LineSpan → LineSpan → List Cell → ℕ
 cells_within i c cs = count_by (λ d. is_within i d.inline && is_within c d.crossline) cs
 

@@ -7,7 +7,7 @@ ghost use Rattle.cell_positions.specs.Steps.{inlines_apart as inlines_apart_of, 
 use crate::cell::Cell;
 use crate::cells::find_cells;
 use crate::lines::{crossline_span, crosslines_apart, inline_span, inlines_apart};
-use crate::pairs::{Pair, difference_from, difference_in_front, pair_from, usual_difference};
+use crate::pairs::{Pair, Walk, difference_from, difference_in_front, pair_from, usual_difference};
 use crate::placed::Positions;
 use crate::{MOST_PAIRS, OutOfMemory, TracePair};
 use position_differences::{Difference, is_jump};
@@ -147,9 +147,9 @@ fn add_jumps(
     ensures few { IfOk result (λ n. n ≤ length cells.now) }
 {
     let mut pairs = 0;
-    let mut cursor = 0;
+    let mut walk = Walk::from(0);
     for cell in cells {
-        if let Some(pair) = pair_from(positions, cells, apart, cell, &mut cursor) {
+        if let Some(pair) = pair_from(positions, cells, apart, cell, &mut walk) {
             pairs += 1;
             if jumps_beside(positions, cells, apart, usual, &pair) {
                 traces.push(traces_of(&pair))?;

@@ -9,7 +9,7 @@ use crate::OutOfMemory;
 use crate::cell::Cell;
 use crate::placed::Positions;
 use key_counts::Counts;
-use position_differences::{Difference, commonest_difference, difference_between};
+use position_differences::{Difference, LastDifferences, commonest_difference, difference_between};
 use std::alloc::Global;
 
 // Two cells that are neighbours on a line, and how far the second one's position lies above the
@@ -19,6 +19,26 @@ pub(crate) struct Pair {
     pub first: Cell,
     pub second: Cell,
     pub difference: Difference,
+}
+
+// Where a cell is looked for first, and the differences that came last. Both move on with each
+// pair: whatever they are, the answers are the same.
+#[derive(Clone, Copy)]
+pub(crate) struct Walk {
+    cursor: usize,
+    last: LastDifferences,
+}
+
+impl Walk {
+    // It looks here first.
+    pub(crate) fn from(cursor: usize) -> Walk
+        ensures { result.cursor ≡ cursor }
+    {
+        Walk {
+            cursor,
+            last: LastDifferences::new(),
+        }
+    }
 }
 
 // The commonest difference of the pairs of cells that lie so many inlines and crosslines apart.
@@ -48,29 +68,28 @@ fn count_differences(
         (map (λ p. p.difference) (pairs_of positions.now cells.now apart))) }
 {
     let mut counts = Counts::new(alloc);
-    let mut cursor = 0;
+    let mut walk = Walk::from(0);
     for cell in cells {
-        if let Some(pair) = pair_from(positions, cells, apart, cell, &mut cursor) {
+        if let Some(pair) = pair_from(positions, cells, apart, cell, &mut walk) {
             counts.raise(pair.difference)?;
         }
     }
     Ok(counts)
 }
 
-// The cell with the one that lies so many beyond it, where both have positions. The cursor is
-// where to look first, and moves on: whatever it is, the answer is the same.
+// The cell with the one that lies so many beyond it, where both have positions.
 pub(crate) fn pair_from(
     positions: &Positions,
     cells: &[Cell],
     apart: (i64, i64),
     first: &Cell,
-    cursor: &mut usize,
+    walk: &mut Walk,
 ) -> Option<Pair>
     requires { CellsRise cells.now }
     ensures { result ≡ pair_from_of positions.now cells.now apart first.now }
 {
-    let second = find_near(cells, &place_beyond(first, apart), cursor)?;
-    let difference = difference_of(positions, first, &second)?;
+    let second = find_near(cells, &place_beyond(first, apart), &mut walk.cursor)?;
+    let difference = difference_of(positions, first, &second, &mut walk.last)?;
     Some(Pair {
         first: *first,
         second,
@@ -88,8 +107,8 @@ pub(crate) fn difference_from(
     requires { CellsRise cells.now }
     ensures { result ≡ difference_from_of positions.now cells.now apart first.now }
 {
-    let mut cursor = cells.len();
-    let pair = pair_from(positions, cells, apart, first, &mut cursor)?;
+    let mut walk = Walk::from(cells.len());
+    let pair = pair_from(positions, cells, apart, first, &mut walk)?;
     Some(pair.difference)
 }
 
@@ -109,12 +128,17 @@ pub(crate) fn difference_in_front(
 }
 
 // How far the second cell's position lies above the first's.
-fn difference_of(positions: &Positions, first: &Cell, second: &Cell) -> Option<Difference>
+fn difference_of(
+    positions: &Positions,
+    first: &Cell,
+    second: &Cell,
+    last: &mut LastDifferences,
+) -> Option<Difference>
     ensures { result ≡ difference_between_of positions.now first.now second.now }
 {
     let from = positions.get(first.trace)?;
     let to = positions.get(second.trace)?;
-    Some(difference_between(&from, &to))
+    Some(difference_between(&from, &to, last))
 }
 
 // The inline and crossline that lie so many beyond those of a cell.

@@ -4,4 +4,5 @@ pub mod ComputedFrontLemmas
 mod ChoosingLemmas
 mod ChoosingFaultLemmas
 mod RecordLemmas
+mod BesideLemmas
 mod ToldLemmas

@@ -1,5 +1,5 @@
 -- Conditions on the records of traces, and the records in order.
-use Rattle.std.proofs.Common.{◌≡◌, ℕ, zero, suc, ◌+◌, ◌-◌, ◌<◌, ◌≤◌, ◌==◌, Bool, true, false, ◌&&◌, ◌||◌, List, [], ◌∷◌, ◌++◌, length, map, drop, get_or, Option, Some, None, is_some, pos, refl, sym, ap, ap₂, subst, ◌∙◌, arith, codes}
+use Rattle.std.proofs.Common.{◌≡◌, ℕ, zero, suc, ◌+◌, ◌-◌, ◌<◌, ◌≤◌, ◌==◌, Bool, true, false, ◌&&◌, List, [], ◌∷◌, ◌++◌, length, map, drop, get_or, Option, Some, None, pos, refl, sym, ap, ap₂, subst, ◌∙◌, arith}
 use Rattle.std.specs.Prelude.{slice_get, option_map, option_and_then, nat_le, IfSome}
 use Rattle.std.specs.List.{list_all}
 use Rattle.std.specs.Option.{MatchOption, option_map_or}
@@ -26,7 +26,6 @@ use Rattle.edit_overlay.specs.CountedVolume.{CountedVolume}
 use Rattle.bench_rules.specs.declared.test.Test.{Test}
 use Rattle.bench_rules.specs.Conditions.{meets, test_in}
 use Rattle.bench_rules.specs.SampleFacts.{amplitudes_at}
-use Rattle.bench_rules.specs.Computed.{term_in}
 use Rattle.bench_rules.specs.RecordNumbers.{is_one_number}
 use Rattle.bench_rules.specs.Live.{AreRecordsOf}
 use Rattle.bench_rules.specs.ManyTraces.{each_of}

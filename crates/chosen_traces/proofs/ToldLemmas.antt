@@ -31,6 +31,7 @@ asking-more (about.Table fields) n m less = less
 asking-more (about.Find field low high) n m less = less
 asking-more about.Extremes n m less = less
 asking-more about.Stats n m less = less
+asking-more (about.Samples range) n m less = omega arith
 
 -- what is told where the traces of the range are there
 abbrev after_range : Volume → Pairs → Chosen → ChosenQuery → Reply

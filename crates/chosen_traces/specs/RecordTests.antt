@@ -1,5 +1,5 @@
 -- Conditions whose sides the records beside the traces tell.
-use Rattle.std.specs.Prelude.{◌≡◌, ℕ, ◌-◌, ℤ, Bool, List, map, slice_get, Option, Some, option_and_then}
+use Rattle.std.specs.Prelude.{◌≡◌, ℕ, ◌-◌, ℤ, Bool, List, map, slice_get, Option, Some, None, option_and_then, if◌then◌else◌}
 use Rattle.std.specs.List.{list_all}
 use Rattle.field_map.specs.Pairs.{Pairs}
 use Rattle.frame_cut.specs.declared.file_head.Head.{Head}
@@ -70,3 +70,7 @@ HasRecords o fields = map facts_of (map record_in o.payloads) ≡ map (record_of
 -- what the record beside trace p says of its samples
 abbrev pub amplitudes_beside : List PackedRecord → (p : ℕ) → Option Amplitudes
 amplitudes_beside payloads p = option_and_then (λ r. r.amplitudes) (slice_get (map record_in payloads) (p - 1))
+
+-- the same where it is asked for
+abbrev pub amplitudes_if : Bool → List PackedRecord → (p : ℕ) → Option Amplitudes
+amplitudes_if asked payloads p = if asked then amplitudes_beside payloads p else None

@@ -14,11 +14,15 @@ ghost use Rattle.bench_rules.specs.Places.{place_in_trace as place_of_field};
 ghost use Rattle.bench_rules.specs.RangeFaults.{or_fault};
 ghost use Rattle.bench_rules.specs.RangeRefusals.{range_refusal};
 ghost use Rattle.bench_rules.specs.ReadFaults.{IsReadFault};
+ghost use Rattle.bench_rules.specs.Sections.{section_answer_of_each};
 ghost use Rattle.bench_rules.specs.State.{State};
 ghost use Rattle.chosen_traces.specs.RecordTests.{HasRecords};
 
 use crate::choosing::choose;
-use bench_rules::{Answer, AskFault, Chosen, ChosenQuery, Field, place_in_trace, range_fault};
+use bench_rules::{
+    Answer, AskFault, Chosen, ChosenQuery, Field, Items, SampleRange, Section, has_opaque_samples,
+    place_in_trace, range_fault,
+};
 use edit_overlay::Overlay;
 use field_map::FieldMap;
 use header_answers::{extremes_among, found_among, named_places};
@@ -81,7 +85,8 @@ fn asks_for_fields(map: &FieldMap, query: &ChosenQuery) -> bool
     ensures { result ≡ asks_for_fields_of map.now.pairs query.now }
 {
     match query {
-        ChosenQuery::Count | ChosenQuery::Extremes | ChosenQuery::Stats => true,
+        ChosenQuery::Count | ChosenQuery::Extremes | ChosenQuery::Stats | ChosenQuery::Samples(_) =>
+            true,
         ChosenQuery::Table(fields) => have_places(map, fields.as_slice()),
         ChosenQuery::Find(field, _low, _high) => place_in_trace(map, field).is_some(),
     }
@@ -125,7 +130,25 @@ fn told(
             Ok(Answer::Extremes(extremes))
         }
         ChosenQuery::Stats => stats_among(alloc, overlay, traces.as_slice()),
+        ChosenQuery::Samples(range) => section(overlay, traces, *range),
     }
+}
+
+// The section of these traces: E12 where samples have no values. Looks at none of them.
+fn section(
+    overlay: &Overlay<PackedRecord>,
+    traces: Vec<u32>,
+    samples: SampleRange,
+) -> Result<Answer, AskFault>
+    ensures { result ≡ section_answer_of_each overlay.now.volume samples traces.items }
+{
+    if has_opaque_samples(overlay) {
+        return Err(AskFault::NoValues);
+    }
+    Ok(Answer::Section(Section {
+        traces: Items::new(traces),
+        samples,
+    }))
 }
 
 // Those of these traces whose field has a number from low to high: E02 where it has no place.

@@ -11,11 +11,13 @@ ghost use Rattle.bench_rules.specs.RangeRefusals.{range_refusal};
 ghost use Rattle.bench_rules.specs.ReadFaults.{IsReadFault};
 ghost use Rattle.bench_rules.specs.RecordNumbers.{tells_tests};
 ghost use Rattle.chosen_traces.specs.Choosing.{choosing_fault, fault_under};
-ghost use Rattle.chosen_traces.specs.RecordTests.{amplitudes_beside, HasRecords};
+ghost use Rattle.chosen_traces.specs.RecordTests.{amplitudes_if, HasRecords};
 
 use crate::by_records::chosen_by_records;
 use crate::record_tests::record_tests;
-use bench_rules::{AskFault, Chosen, Condition, Test, lacks_values, meets_all, test_of};
+use bench_rules::{
+    AskFault, Chosen, Condition, Test, ask_values, lacks_values, meets_all, test_of,
+};
 use edit_overlay::{Overlay, ReadFault};
 use field_map::FieldMap;
 use record_table::Records;
@@ -166,9 +168,11 @@ fn chosen_from(
         tests.now (range_with_len a (b + 1 - a)) ≡ None))) }
     ensures seen { IsSeen overlay.old overlay.new (b + 1 - a) }
 {
+    // Most conditions are on numbers of header fields, which need no record beside the trace.
+    let beside = ask_values(tests);
     let mut traces = Vec::new(alloc);
     for k in 0..b - a + 1 {
-        let Some(is_chosen) = judged(overlay, a + k, tests)? else {
+        let Some(is_chosen) = judged(overlay, a + k, tests, beside)? else {
             return Err(AskFault::NoPlace);
         };
         keep(&mut traces, a + k, is_chosen)?;
@@ -187,31 +191,35 @@ pub(crate) fn keep(traces: &mut Vec<u32>, p: u32, is_chosen: bool) -> Result<(),
     Ok(())
 }
 
-// Whether trace p meets all conditions, in one look at it and at the record beside it; `None` where
-// it lacks a place.
+// Whether trace p meets all conditions, in one look at it, and at the record beside it where the
+// conditions ask for that; `None` where it lacks a place.
 fn judged(
     overlay: &mut Overlay<PackedRecord>,
     p: u32,
     tests: &[Test],
+    beside: bool,
 ) -> Result<Option<bool>, ReadFault>
     requires { IsTrue (is_trace overlay.old.volume p) }
     ensures told { IfOk result (λ told. IsTrue overlay.new.agreed → told ≡ meets_by
         overlay.old.volume.head (trace_at overlay.old.volume p)
-        (amplitudes_beside overlay.old.payloads p) tests.now) }
+        (amplitudes_if beside overlay.old.payloads p) tests.now) }
     ensures seen { IsSeen overlay.old overlay.new 1 }
     ensures read { IfErr result (λ _. IsTrue overlay.old.loaded.on_disk) }
 {
-    let amplitudes = amplitudes_of(overlay, p);
+    let amplitudes = amplitudes_of(overlay, p, beside);
     let Some(trace) = overlay.look(p)? else {
         unreachable!()
     };
     Ok(meets_all(&trace, amplitudes, tests))
 }
 
-// What the record beside trace p says of its samples.
-fn amplitudes_of(overlay: &Overlay<PackedRecord>, p: u32) -> Option<Amplitudes>
-    ensures { result ≡ amplitudes_beside overlay.now.payloads p }
+// What the record beside trace p says of its samples, where that is asked for.
+fn amplitudes_of(overlay: &Overlay<PackedRecord>, p: u32, beside: bool) -> Option<Amplitudes>
+    ensures { result ≡ amplitudes_if beside overlay.now.payloads p }
 {
+    if !beside {
+        return None;
+    }
     match Records::new(overlay.payloads()).get((p as usize).saturating_sub(1)) {
         Some(record) => record.amplitudes,
         None => None,

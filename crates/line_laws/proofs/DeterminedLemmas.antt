@@ -1,5 +1,5 @@
 -- Lines that are run twice end the same and print the same.
-use Rattle.std.proofs.Common.{◌≡◌, ◌⊎◌, ℕ, Bool, true, false, List, [], ◌∷◌, Option, Some, None, Result, Ok, Err, IfOk, refl, sym, subst, ap, ap₂, ◌∙◌, inl, inr}
+use Rattle.std.proofs.Common.{◌≡◌, ◌⊎◌, ℕ, ℤ, length, Bool, true, false, List, [], ◌∷◌, ◌++◌, Option, Some, None, Result, Ok, Err, IfOk, refl, sym, subst, ap, ap₂, ◌∙◌, inl, inr}
 use Rattle.std.specs.Prelude.{IsErrAnd, if◌then◌else◌}
 use Rattle.field_map.specs.Pairs.{Pairs}
 use Rattle.frame_cut.specs.declared.file_head.Head.{Head}
@@ -9,13 +9,12 @@ use Rattle.frame_cut.specs.Volume.{Volume}
 use Rattle.frame_cut.proofs.OneCutLemmas.{at_most_one_cut}
 use Rattle.float_codes.specs.declared.float_format.FloatFormat.{FloatFormat}
 use Rattle.bench_laws.specs.EditLaws.{StepsStayCut}
-use Rattle.bench_rules.specs.declared.answer.Answer.{Answer}
 use Rattle.bench_rules.specs.declared.ask_fault.AskFault.{AskFault}
 use Rattle.bench_rules.specs.declared.ask_fault.AskFault.TheVariants as asks
 use Rattle.bench_rules.specs.declared.edit.Edit.{Edit}
 use Rattle.bench_rules.specs.declared.query.Query.{Query}
 use Rattle.bench_rules.specs.declared.refusal.Refusal.{Refusal}
-use Rattle.bench_rules.specs.declared.refusal.Refusal.TheVariants.{OutOfMemory, ReadFailed, FileChanged}
+use Rattle.bench_rules.specs.declared.refusal.Refusal.TheVariants.{OutOfMemory}
 use Rattle.bench_rules.specs.After.{bytes_after}
 use Rattle.bench_rules.specs.Answer.{Reply, answer, IsReply, FailsToRead as AskFailsToRead}
 use Rattle.bench_rules.specs.FloatStatistics.{float_format}
@@ -28,10 +27,14 @@ use Rattle.script_words.specs.declared.command.Command.TheVariants.{Apply, Ask}
 use Rattle.script_words.specs.declared.line_fault.LineFault.{LineFault}
 use Rattle.script_words.specs.declared.line_fault.LineFault.TheVariants as line_faults
 use Rattle.script_words.specs.Commands.{IsParsed, line_result}
-use Rattle.script_text.specs.Replies.{Printed, edit_reply, fault_reply, query_reply}
-use Rattle.line_laws.specs.Determined.{IsOfLine, AreOfLines, LinesAreDetermined}
+use Rattle.script_text.specs.Replies.{Printed, edit_reply, query_reply}
+use Rattle.line_laws.specs.Determined.{IsOfLine, LinesAreDetermined}
 use Rattle.script_run.specs.Laws.{IsRead}
-use Rattle.script_run.specs.Runs.{tells_samples, floats_asked, IsPrintedOf, CommandStep, ReadStep, LineStep, LineSteps}
+use Rattle.script_run.specs.Runs.{tells_samples, asks_for_section, floats_asked, section_asked, IsPrintedBy, IsPrintedIn, IsPrintedOf, CommandStep, ReadStep, LineStep, LineSteps}
+use Rattle.script_run.specs.Sections.{IsSectionPrinted, IsWhole}
+use Rattle.script_text.specs.SectionTexts.{row_line, section_head, AreRowTexts, AreWords}
+use Rattle.bench_rules.specs.declared.section.Section.{Section}
+use Rattle.bench_rules.specs.Sections.{rows_of}
 use Rattle.script_run.proofs.ScratchLemmas.{line_keeps}
 
 -- ---- one edit
@@ -53,8 +56,8 @@ same_after old edit new again h k =
 
 -- what a read that failed is told is none of these answers
 read_fails : (s : State) (edit : Edit) (r : Refusal) → FailsToRead s edit r → IsOfLine (edit_reply (Err r)) → ⊥
-read_fails s edit r (_, (_, inl is)) none = none.1 (ap (λ (x : Refusal). let e : Result (Option ℕ) Refusal = Err x in edit_reply e) is)
-read_fails s edit r (_, (_, inr is)) none = none.2 (ap (λ (x : Refusal). let e : Result (Option ℕ) Refusal = Err x in edit_reply e) is)
+read_fails s edit r (_, (_, inl is)) none = none.1 [] (ap (λ (x : Refusal). let e : Result (Option ℕ) Refusal = Err x in (edit_reply e).text) is)
+read_fails s edit r (_, (_, inr is)) none = none.2 [] (ap (λ (x : Refusal). let e : Result (Option ℕ) Refusal = Err x in (edit_reply e).text) is)
 
 no_memory : (r : Refusal) → r ≡ OutOfMemory → IsOfLine (edit_reply (Err r)) → ⊥
 no_memory r is none = none.0 (ap (λ (x : Refusal). let e : Result (Option ℕ) Refusal = Err x in edit_reply e) is)
@@ -95,24 +98,76 @@ same_edit None old edit r s new again one other told tells none never =
 
 -- ---- one query
 
--- a fault is printed as it is, of floats too
+-- a fault is printed as it is, of floats and of samples of many traces too
 fault_printed : (floats : Option FloatFormat) (fault : AskFault) (p : Printed) → IsPrintedOf floats (Err fault) p → p ≡ query_reply (Err fault)
 fault_printed None fault p is = is
 fault_printed (Some f) fault p is = is
 
+fault_told : (s : State) (query : Query) (fault : AskFault) (p : Printed) → IsPrintedIn s query (Err fault) p → p ≡ query_reply (Err fault)
+fault_told s query fault p is = fault_printed (floats_asked s query) fault p (by (asks_for_section query) is)
+  where
+    by : (b : Bool) → IsPrintedBy s (if b then None else None) (floats_asked s query) (Err fault) p → IsPrintedOf (floats_asked s query) (Err fault) p
+    by true h = h
+    by false h = h
+
+-- what is printed for it
+abbrev text_of : AskFault → List ℕ
+text_of fault = let e : Reply = Err fault in (query_reply e).text
+
 ask_fails : (s : State) (query : Query) (fault : AskFault) (p : Printed) → p ≡ query_reply (Err fault) → AskFailsToRead s query fault → IsOfLine p → ⊥
-ask_fails s query fault p prints (_, (_, inl is)) none = none.1 (prints ∙ ap (λ (x : AskFault). let e : Reply = Err x in query_reply e) is)
-ask_fails s query fault p prints (_, (_, inr is)) none = none.2 (prints ∙ ap (λ (x : AskFault). let e : Reply = Err x in query_reply e) is)
+ask_fails s query fault p prints (_, (_, inl is)) none = none.1 [] (ap (λ (q : Printed). q.text) prints ∙ ap text_of is)
+ask_fails s query fault p prints (_, (_, inr is)) none = none.2 [] (ap (λ (q : Printed). q.text) prints ∙ ap text_of is)
 
-failed_reply : (s : State) (query : Query) (reply : Reply) (p : Printed) → IsPrintedOf None reply p → IsErrAnd reply (AskFailsToRead s query) → IsOfLine p → ⊥
+failed_reply : (s : State) (query : Query) (reply : Reply) (p : Printed) → IsPrintedIn s query reply p → IsErrAnd reply (AskFailsToRead s query) → IsOfLine p → ⊥
 failed_reply s query (Ok a) p is fails none = absurd fails
-failed_reply s query (Err fault) p is fails none = ask_fails s query fault p is fails none
+failed_reply s query (Err fault) p is fails none = ask_fails s query fault p (fault_told s query fault p is) fails none
 
--- where samples are not floats the answer is printed
-printed_answer : (s : State) (query : Query) (reply : Reply) (p : Printed) → IsReply s query reply → IsPrintedOf None reply p → IsOfLine p → p ≡ query_reply (answer s query)
-printed_answer s query reply p (inl is) prints none = prints ∙ ap (λ (x : Reply). query_reply x) is
-printed_answer s query reply p (inr (inl (is, may))) prints none = absurd (none.0 (prints ∙ ap (λ (x : Reply). query_reply x) is))
+-- where samples are not floats it is the answer that is printed
+printed_answer : (s : State) (query : Query) (reply : Reply) (p : Printed) → IsReply s query reply → IsPrintedIn s query reply p → IsOfLine p → IsPrintedIn s query (answer s query) p
+printed_answer s query reply p (inl is) prints none = subst (λ (x : Reply). IsPrintedIn s query x p) is prints
+printed_answer s query reply p (inr (inl (is, may))) prints none = absurd (none.0 (fault_told s query asks.OutOfMemory p (subst (λ (x : Reply). IsPrintedIn s query x p) is prints)))
 printed_answer s query reply p (inr (inr fails)) prints none = absurd (failed_reply s query reply p prints fails none)
+
+-- ---- samples of many traces
+
+same_words : (xs : List ℤ) (ws vs : List (List ℕ)) → AreWords None xs ws → AreWords None xs vs → vs ≡ ws
+same_words [] [] [] one other = refl
+same_words [] [] (v ∷ vs) one other = absurd other
+same_words [] (w ∷ ws) vs one other = absurd one
+same_words (x ∷ xs) [] vs one other = absurd one
+same_words (x ∷ xs) (w ∷ ws) [] one other = absurd other
+same_words (x ∷ xs) (w ∷ ws) (v ∷ vs) one other = ap₂ (λ (u : List ℕ) (us : List (List ℕ)). u ∷ us) (other.0 ∙ sym one.0) (same_words xs ws vs one.1 other.1)
+
+same_rows : (rows : List (ℕ × List ℤ)) (a b : List ℕ) → AreRowTexts None rows a → AreRowTexts None rows b → b ≡ a
+same_rows [] a b one other = other ∙ sym one
+same_rows (row ∷ rows) a b (first, rest, (words, are, is), others, joined) (again, left, (says, same, reads), more, all) =
+    all ∙ ap₂ (λ (s t : List ℕ). s ++ t) (reads ∙ ap (row_line row.0) (same_words row.1 words says are same) ∙ sym is) (same_rows rows rest left others more) ∙ sym joined
+
+-- none is cut short
+whole_section : (s : State) (section : Section) (p : Printed) → IsSectionPrinted s section p → IsOfLine p → IsWhole s section p
+whole_section s section p (inl whole) none = whole
+whole_section s section p (inr short) none = absurd (by short.unread.1)
+  where
+    told : (fault : AskFault) → short.fault ≡ fault → p.text ≡ (section_head (length section.traces) ++ short.lines) ++ text_of fault
+    told fault is = short.text ∙ ap (λ (f : AskFault). (section_head (length section.traces) ++ short.lines) ++ text_of f) is
+
+    by : (short.fault ≡ asks.ReadFailed) ⊎ (short.fault ≡ asks.FileChanged) → ⊥
+    by (inl is) = none.1 (section_head (length section.traces) ++ short.lines) (told asks.ReadFailed is)
+    by (inr is) = none.2 (section_head (length section.traces) ++ short.lines) (told asks.FileChanged is)
+
+same_section : (s : State) (section : Section) (p q : Printed) → float_format s.volume.head.format ≡ None → IsWhole s section p → IsWhole s section q → q ≡ p
+same_section s section p q none one other =
+    let rows : other.lines ≡ one.lines =
+    same_rows (rows_of s.volume section) one.lines other.lines
+    (subst (λ (o : Option FloatFormat). AreRowTexts o (rows_of s.volume section) one.lines) none one.rows)
+    (subst (λ (o : Option FloatFormat). AreRowTexts o (rows_of s.volume section) other.lines) none other.rows) in
+    let text : q.text ≡ p.text = other.text ∙ ap (λ (l : List ℕ). section_head (length section.traces) ++ l) rows ∙ sym one.text in
+    ap₂ (λ (t : List ℕ) (refused : Bool). let r : Printed = record { text = t; is_refusal = refused } in r) text (other.accepted ∙ sym one.accepted)
+
+same_printed : (s : State) (section : Option Section) (reply : Reply) (p q : Printed) → float_format s.volume.head.format ≡ None → IsPrintedBy s section None reply p → IsPrintedBy s section None reply q
+    → IsOfLine p → IsOfLine q → q ≡ p
+same_printed s None reply p q whole one other none never = other ∙ sym one
+same_printed s (Some section) reply p q whole one other none never = same_section s section p q whole (whole_section s section p one none) (whole_section s section q other never)
 
 -- ---- one line
 
@@ -124,13 +179,15 @@ choice_none false o is = refl
 no_floats : (s : State) (query : Query) → float_format s.volume.head.format ≡ None → floats_asked s query ≡ None
 no_floats s query none = choice_none (tells_samples query) (float_format s.volume.head.format) none
 
-same_query : (s : State) (query : Query) (p q : Printed) (r t : Reply) → IsReply s query r → IsPrintedOf (floats_asked s query) r p → IsReply s query t → IsPrintedOf (floats_asked s query) t q
+same_query : (s : State) (query : Query) (p q : Printed) (r t : Reply) → IsReply s query r → IsPrintedIn s query r p → IsReply s query t → IsPrintedIn s query t q
     → IsOfLine p → IsOfLine q → float_format s.volume.head.format ≡ None → q ≡ p
 same_query s query p q r t one prints other writes none never whole =
     let asked : floats_asked s query ≡ None = no_floats s query whole in
-    let first : p ≡ query_reply (answer s query) = printed_answer s query r p one (subst (λ (o : Option FloatFormat). IsPrintedOf o r p) asked prints) none in
-    let second : q ≡ query_reply (answer s query) = printed_answer s query t q other (subst (λ (o : Option FloatFormat). IsPrintedOf o t q) asked writes) never in
-    second ∙ sym first
+    let asks : Option Section = section_asked query (answer s query) in
+    same_printed s asks (answer s query) p q whole
+    (subst (λ (o : Option FloatFormat). IsPrintedBy s asks o (answer s query) p) asked (printed_answer s query r p one prints none))
+    (subst (λ (o : Option FloatFormat). IsPrintedBy s asks o (answer s query) q) asked (printed_answer s query t q other writes never))
+    none never
 
 abbrev AreSame : State → (p q : Printed) → (new again : State) → Type 0
 AreSame old p q new again = (again ≡ new) × (float_format old.volume.head.format ≡ None → q ≡ p)

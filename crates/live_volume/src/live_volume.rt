@@ -1,4 +1,5 @@
-ghost use Rattle.std.specs.Prelude.{◌≡◌, ◌≤◌, [], true, false, length, None, Some, IsSome, IsTrue, IfOk, IfErr, OnOk, OnErr, MatchResult};
+ghost use Rattle.std.specs.Prelude.{◌≡◌, ◌≤◌, ◌↔◌, [], true, false, length, None, Some, IsSome, IfSome, IsTrue, IfOk, IfErr, OnOk, OnErr, MatchResult};
+ghost use Rattle.std.specs.Borrow.{sem};
 ghost use Rattle.std.specs.Io.KnownBytes.{Consumes, IsAtEnd};
 ghost use Rattle.field_map.specs.Binding.{geometry_at_load, is_geometry as is_geometry_name};
 ghost use Rattle.field_map.specs.Places.{offset_of};
@@ -29,7 +30,7 @@ use bench_rules::{
 };
 use chosen_traces::chosen_answer;
 use device_io::{Sink, Source};
-use edit_overlay::{Overlay, SaveFault};
+use edit_overlay::{Overlay, ReadFault, SaveFault};
 use field_map::{FieldMap, Place, is_geometry};
 use frame_cut::{Limits, LoadFault, Reading};
 use header_answers::{extremes_answer, found_answer, header_answer};
@@ -44,6 +45,7 @@ use std::mem;
 use text_block::{code_of, encode_line};
 use time_slice::slice_answer;
 use trace_record::PackedRecord;
+use trace_view::TraceView;
 use volume_answers::{
     cells, code_answer, count_answer, crosslines, faults_answer, fields_answer, fold,
     geometry_answer, get_answer, get_bin_answer, histogram, info_answer, inlines, line_answer,
@@ -75,6 +77,9 @@ impl Model for LiveVolume {
 }
 
 impl LiveVolume {
+    ghost use Rattle.edit_overlay.specs.CountedVolume.{HasShapeOf};
+    ghost use Rattle.live_volume.specs.Looked.{EndsLooked};
+
     /// Reads a whole file and cuts it; the field map is then the six geometry names at their
     /// standard places. Looks at each trace once at most, for its record. Takes memory. Refused:
     /// L01 where a read failed in this call, L02 to L15 or L17 for the first reason that the file
@@ -510,6 +515,20 @@ impl LiveVolume {
                 chosen_answer(alloc, &mut self.overlay, &self.fields, chosen, query)
             }
         }
+    }
+
+    /// Trace p, counted from 1, and one look more; None where there is none, and then no look. On
+    /// disk the trace is read, and refused where the file fails or gives other bytes than it gave
+    /// when it was loaded, as far as its length tells. Takes no memory.
+    pub fn look(&mut self, p: u32) -> Result<Option<TraceView<'_>>, ReadFault>
+        ensures* ends { sem 𝓛 (EndsLooked self.entry p result) }
+        ensures there { IfOk result
+            (λ view. IsSome view ↔ IsTrue (is_trace self.old.state.volume p)) }
+        ensures shape { IfOk result (λ view. IfSome view (HasShapeOf self.old.state.volume p)) }
+        ensures read { IfErr result (λ _. IsTrue (is_trace self.old.state.volume p)
+            × IsTrue self.old.state.on_disk) }
+    {
+        self.overlay.look(p)
     }
 
     /// Ends the volume: gives back its memory, and closes a file on disk. Who owns one ends it by

@@ -2,7 +2,7 @@ ghost use Rattle.std.specs.Prelude.{◌≡◌};
 ghost use Rattle.key_counts.specs.Parts.{FitsCoordinate};
 ghost use Rattle.position_differences.specs.Differences.{difference_of};
 
-use crate::fractions::above;
+use crate::fractions::{LastFractions, above};
 use key_counts::Ratio;
 
 /// Where something stands: two coordinates under their scalar.
@@ -19,8 +19,31 @@ pub struct Difference {
     pub y: Ratio,
 }
 
+/// Differences that came last: one that comes again is told in less time. Whatever they are, each
+/// answer is the same.
+#[derive(Debug, Clone, Copy)]
+pub struct LastDifferences {
+    x: LastFractions,
+    y: LastFractions,
+}
+
+impl LastDifferences {
+    /// None that is known.
+    pub fn new() -> LastDifferences {
+        let none = Ratio::whole(0);
+        let fractions = LastFractions {
+            newer: none,
+            older: none,
+        };
+        LastDifferences {
+            x: fractions,
+            y: fractions,
+        }
+    }
+}
+
 /// How far the second position lies above the first, exactly.
-pub fn difference_between(from: &Position, to: &Position) -> Difference
+pub fn difference_between(from: &Position, to: &Position, last: &mut LastDifferences) -> Difference
     requires from_x { FitsCoordinate from.now.x }
     requires from_y { FitsCoordinate from.now.y }
     requires to_x { FitsCoordinate to.now.x }
@@ -28,7 +51,7 @@ pub fn difference_between(from: &Position, to: &Position) -> Difference
     ensures { result ≡ difference_of from.now to.now }
 {
     Difference {
-        x: above(from.x, to.x),
-        y: above(from.y, to.y),
+        x: above(from.x, to.x, &mut last.x),
+        y: above(from.y, to.y, &mut last.y),
     }
 }

@@ -3,6 +3,7 @@ ghost use Rattle.std.specs.Option.{option_map_or};
 ghost use Rattle.position_differences.specs.Differences.{is_apart as are_apart, is_zero as is_none, greater_of, is_far as lies_far, is_jump as jumps};
 
 use crate::Difference;
+use crate::fractions::times;
 use key_counts::Ratio;
 
 // A coordinate that differs by more than one of so many parts of an amount is far.
@@ -91,11 +92,4 @@ fn distance_over(one: Ratio, other: Ratio) -> u128
     let here = times(one.num, other.den);
     let there = times(other.num, one.den);
     (here - there).unsigned_abs()
-}
-
-fn times(num: i64, den: u32) -> i128
-    ensures value { result ≡ num *ℤ pos den }
-    ensures size { unsigned_abs result ≤ 2 ^ 95 }
-{
-    i128::from(num) * i128::from(den)
 }

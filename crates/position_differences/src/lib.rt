@@ -10,5 +10,5 @@ mod far;
 mod fractions;
 
 pub use crate::commonest::commonest_difference;
-pub use crate::difference::{Difference, Position, difference_between};
+pub use crate::difference::{Difference, LastDifferences, Position, difference_between};
 pub use crate::far::{is_far, is_jump};

@@ -1,4 +1,5 @@
-//! What the samples of listed traces of a volume under edits say: of each trace the least, the
+//! The samples of a trace that a range names, one after another (`AskedSamples`), and what the
+//! samples of listed traces of a volume under edits say: of each trace the least, the
 //! greatest and the sum of its samples, how many there are, how many are 0, and of floats how many
 //! are no number.
 //!
@@ -9,6 +10,8 @@
 #![tactic(auto)]
 
 mod among;
+mod asked;
 mod of_trace;
 
 pub use crate::among::stats_among;
+pub use crate::asked::AskedSamples;

@@ -1,7 +1,7 @@
 // The commands and their forms.
 
 /// The first words of the commands.
-pub static COMMANDS: [&str; 46] = [
+pub static COMMANDS: [&str; 47] = [
     "set",
     "get",
     "bin",
@@ -37,6 +37,7 @@ pub static COMMANDS: [&str; 46] = [
     "geometry",
     "stat",
     "stats",
+    "samples",
     "fold",
     "grid",
     "inlines",
@@ -52,7 +53,7 @@ pub static COMMANDS: [&str; 46] = [
 
 // Their forms, in the same order: `all` stands for P and Q. They are searched: a `match` of so many
 // texts takes minutes to prove.
-static FORMS: [&str; 46] = [
+static FORMS: [&str; 47] = [
     "set P [Q] FIELD NUMBER [where A OP B ..]",
     "get P FIELD",
     "bin FIELD NUMBER",
@@ -88,6 +89,7 @@ static FORMS: [&str; 46] = [
     "geometry P",
     "stat P",
     "stats P Q [where A OP B ..]",
+    "samples P Q FROM TO [STEP] [where A OP B ..]",
     "fold NUMBER NUMBER",
     "grid",
     "inlines",

@@ -27,6 +27,7 @@ fn may_have_conditions(command: &[u8]) -> bool {
             | b"delete"
             | b"count"
             | b"stats"
+            | b"samples"
             | b"swap"
             | b"fill"
     )

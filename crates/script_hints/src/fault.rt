@@ -31,7 +31,8 @@ pub fn fault_of(reply: &Reply) -> Option<Fault>
         | Reply::Session(Ok(_))
         | Reply::Edited(Ok(_))
         | Reply::Asked(Ok(_))
-        | Reply::Floats(_) => None,
+        | Reply::Floats(_)
+        | Reply::Section(_) => None,
         Reply::Fault(fault) => Some(Fault::Line(*fault)),
         Reply::Session(Err(fault)) => Some(Fault::Session(*fault)),
         Reply::Edited(Err(refusal)) => Some(Fault::Edit(*refusal)),

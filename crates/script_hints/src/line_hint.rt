@@ -92,6 +92,10 @@ fn wrong_words(words: &Words) -> Hint {
         b"fill" if words.count() == 5 && !is_word(words, 2, b"last") => {
             Hint::Text("of one trace it is fill P P FROM TO NUMBER")
         }
+        b"sample" if words.count() >= 5 => Hint::Text("of many traces it is samples P Q FROM TO"),
+        b"samples" if words.count() == 4 && !is_word(words, 2, b"last") => {
+            Hint::Text("of one trace it is samples P P FROM TO")
+        }
         _ => form_of(words),
     }
 }
@@ -136,7 +140,7 @@ fn wrong_number(words: &Words) -> Hint {
         },
         b"map" => Hint::Text("FIELD is a place, as @189:4, or a name, as source_x"),
         b"stat" if words.count() == 3 => Hint::Text("of many traces it is stats P Q"),
-        b"fill" if is_word(words, 3, b"last") || is_word(words, 4, b"last") => {
+        b"fill" | b"samples" if is_word(words, 3, b"last") || is_word(words, 4, b"last") => {
             Hint::Text("last is a trace: FROM and TO are samples, and count from 0")
         }
         _ => place_or_form(words),
@@ -231,6 +235,7 @@ fn is_of_range(command: &[u8]) -> bool {
             | b"delete"
             | b"count"
             | b"stats"
+            | b"samples"
             | b"fill"
             | b"move"
     )
@@ -267,12 +272,14 @@ fn first_unknown_side(words: &Words, from: usize) -> Hint {
 }
 
 fn unknown_side(word: &[u8]) -> Hint {
-    if is_fact(word) {
-        return Hint::None;
-    }
-    match nearest(word, &SAMPLE_FACTS) {
-        Hint::None => unknown_name(word),
-        hint => hint,
+    match word {
+        b"inf" | b"nan" => Hint::Text("a condition has no nan and no inf: inf alone is > 1e999"),
+        [b'.', ..] => Hint::Text("a number in a condition begins with a digit or -, as 0.5"),
+        _ if is_fact(word) => Hint::None,
+        _ => match nearest(word, &SAMPLE_FACTS) {
+            Hint::None => unknown_name(word),
+            hint => hint,
+        },
     }
 }
 

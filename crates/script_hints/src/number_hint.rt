@@ -12,10 +12,10 @@ pub(crate) fn number_hint(word: &[u8]) -> Option<&'static str> {
     if !digits.first().is_some_and(|byte| byte.is_ascii_digit()) {
         return None;
     }
-    if digits.iter().any(|byte| *byte == b'.' || *byte == b',') {
-        return Some(
+    match digits.iter().find(|byte| !byte.is_ascii_digit()) {
+        Some(b'.' | b',' | b'e' | b'E') => Some(
             "whole numbers are digits alone, and samples of floats decimals, such as -1.5e3",
-        );
+        ),
+        _ => None,
     }
-    None
 }

@@ -1,5 +1,5 @@
 -- No answer of a session has an empty line.
-use Rattle.std.proofs.Common.{◌≡◌, ℕ, List, [], ◌∷◌, Bool, true, false, not, Option, Some, None, Result, Ok, Err, cond, refl, sym, ap, subst, inl, inr}
+use Rattle.std.proofs.Common.{◌≡◌, ℕ, length, take, List, [], ◌∷◌, Bool, true, false, not, Option, Some, None, Result, Ok, Err, cond, refl, sym, ap, subst, inl, inr}
 use Rattle.std.specs.Prelude.{option_map}
 use Rattle.std.specs.Option.{option_map_or}
 use Rattle.field_map.specs.declared.place.Place.{Place}
@@ -28,10 +28,15 @@ use Rattle.script_text.specs.Texts.{IsFullLines}
 use Rattle.script_text.proofs.PlainLemmas.{HasPlainNames, plain_name, plain_bound, plain_unbound, nothing_full, fault_full, session_full as session_text_full, edit_full, query_full, reply_full}
 use Rattle.float_codes.specs.declared.float_format.FloatFormat.{FloatFormat}
 use Rattle.bench_rules.specs.Answer.{Reply}
+use Rattle.bench_rules.specs.declared.section.Section.{Section}
+use Rattle.bench_rules.specs.FloatStatistics.{float_format}
+use Rattle.bench_rules.specs.Sections.{rows_of}
+use Rattle.script_text.proofs.SectionLineLemmas.{full_cut, full_section}
 use Rattle.bench_rules.specs.declared.ask_fault.AskFault.TheVariants as asks
 use Rattle.script_text.specs.Replies.{query_reply}
 use Rattle.script_text.proofs.FloatLineLemmas.{float_answers_are_full_lines}
-use Rattle.script_run.specs.Runs.{ReadStep, IsPrintedOf, floats_asked}
+use Rattle.script_run.specs.Runs.{ReadStep, IsPrintedBy, IsPrintedOf, floats_asked, section_asked}
+use Rattle.script_run.specs.Sections.{IsSectionPrinted}
 use Rattle.script_words.specs.declared.session_words.SessionWord.{SessionWord}
 use Rattle.script_words.specs.declared.session_words.SessionWord.TheVariants.{Save, SaveWithMore, Other}
 use Rattle.script_words.specs.SessionWords.{session_word_of}
@@ -107,11 +112,21 @@ asked_full (Some f) (Ok answer) p (inl (shown, shows, e)) full = full_by p _ e (
 asked_full (Some f) (Ok answer) p (inr (inl e)) full = full_by p _ e.1 (reply_full (Err asks.OutOfMemory) tt)
 asked_full (Some f) (Ok answer) p (inr (inr e)) full = full_by p _ e.1 full
 
+-- what is printed for samples of many traces
+section_full : (s : State) (section : Section) (p : Printed) → IsSectionPrinted s section p → IsFullLines p.text
+section_full s section p (inl whole) = rw whole.text (full_section (float_format s.volume.head.format) (rows_of s.volume section) whole.lines (length section.traces) whole.rows)
+section_full s section p (inr short) =
+    rw short.text (full_cut (float_format s.volume.head.format) (take short.before (rows_of s.volume section)) short.lines (length section.traces) short.fault short.rows)
+
+printed_full : (s : State) (section : Option Section) (o : Option FloatFormat) (reply : Reply) (p : Printed) → IsPrintedBy s section o reply p → IsFullLines (query_reply reply).text → IsFullLines p.text
+printed_full s None o reply p is full = asked_full o reply p is full
+printed_full s (Some section) o reply p is full = section_full s section p is
+
 read_full : (old new : State) (read : Result (Option Command) LineFault) (p : Printed) → HasPlainNames old.fields → ReadStep old read p new → IsFullLines p.text × HasPlainNames new.fields
 read_full old new (Ok None) p h step = (full_by p _ step.0 nothing_full, same_plain old new step.1 h)
 read_full old new (Ok (Some (Apply edit))) p h step =
     (full_by p (edit_reply step.0) step.2 (edit_full step.0), step_plain (first_refusal old edit) old new edit step.0 refl h step.1)
-read_full old new (Ok (Some (Ask query))) p h step = (asked_full (floats_asked old query) step.0 p step.2 (query_full old query step.0 h step.1), same_plain old new step.3 h)
+read_full old new (Ok (Some (Ask query))) p h step = (printed_full old (section_asked query step.0) (floats_asked old query) step.0 p step.2 (query_full old query step.0 h step.1), same_plain old new step.3 h)
 read_full old new (Err fault) p h step = (full_by p (fault_reply fault) step.0 (fault_full fault), same_plain old new step.1 h)
 
 stands_plain : (old new : Standing) → new ≡ old → HasPlainNames old.state.fields → HasPlainNames new.state.fields

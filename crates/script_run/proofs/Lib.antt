@@ -11,3 +11,5 @@ pub mod SessionEndLemmas
 pub mod ReadAsLemmas
 pub mod InPlaceLemmas
 pub mod PlaceLemmas
+mod SectionOutLemmas
+mod SectionAskedLemmas

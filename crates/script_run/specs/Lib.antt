@@ -12,3 +12,4 @@ pub mod InPlace
 pub mod Places
 pub mod NextLine
 pub mod SessionLineRuns
+pub mod Sections

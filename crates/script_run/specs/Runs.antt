@@ -1,14 +1,15 @@
 -- A script run over a volume, line by line.
-use Rattle.std.specs.Prelude.{◌≡◌, ◌⊎◌, ℕ, Bool, true, false, if◌then◌else◌, IsTrue, ◌+◌, ◌<◌, ◌≤◌, List, [], ◌∷◌, ◌++◌, length, take, flat_map, count_by, Option, Some, None, Result, Ok, Err, IfOk}
+use Rattle.std.specs.Prelude.{◌≡◌, ◌⊎◌, ℕ, Bool, true, false, if◌then◌else◌, IsTrue, ◌+◌, ◌<◌, ◌≤◌, List, [], ◌∷◌, ◌++◌, length, take, flat_map, count_by, Option, Some, None, Result, Ok, Err, IfOk, ⊤}
 use Rattle.bench_rules.specs.declared.refusal.Refusal.{Refusal}
 use Rattle.bench_rules.specs.State.{State}
 use Rattle.bench_rules.specs.Steps.{Step, told_of}
 use Rattle.bench_rules.specs.Answer.{Reply, IsReply}
+use Rattle.bench_rules.specs.Conditions.{AreRising}
 use Rattle.bench_rules.specs.FloatStatistics.{float_format}
 use Rattle.bench_rules.specs.declared.query.Query.{Query}
 use Rattle.bench_rules.specs.declared.query.Query.TheVariants as queries
 use Rattle.bench_rules.specs.declared.chosen_query.ChosenQuery.{ChosenQuery}
-use Rattle.bench_rules.specs.declared.chosen_query.ChosenQuery.TheVariants.{Stats}
+use Rattle.bench_rules.specs.declared.chosen_query.ChosenQuery.TheVariants.{Samples, Stats}
 use Rattle.bench_rules.specs.declared.ask_fault.AskFault.TheVariants.{OutOfMemory}
 use Rattle.float_codes.specs.declared.float_format.FloatFormat.{FloatFormat}
 use Rattle.frame_cut.specs.Traces.{count_of}
@@ -19,14 +20,20 @@ use Rattle.script_words.specs.declared.command.Command.TheVariants.{Apply, Ask}
 use Rattle.script_words.specs.declared.line_fault.LineFault.{LineFault}
 use Rattle.script_words.specs.Words.{script_lines}
 use Rattle.script_words.specs.Commands.{IsParsed}
+use Rattle.bench_rules.specs.declared.answer.Answer.TheVariants as answers
+use Rattle.script_text.specs.declared.reply.Reply.{Reply as Held}
+use Rattle.script_text.specs.declared.reply.Reply.TheVariants as replies
+use Rattle.script_text.specs.Held.{printed_of}
+use Rattle.bench_rules.specs.declared.section.Section.{Section}
+use Rattle.script_run.specs.Sections.{IsSectionPrinted}
 use Rattle.script_text.specs.Replies.{Printed, nothing, fault_reply, edit_reply, query_reply, float_reply}
 
--- whether the samples of chosen traces are asked for
+-- whether the statistics of the samples of chosen traces are asked for
 abbrev pub asks_for_stats : ChosenQuery → Bool
 asks_for_stats Stats = true
 asks_for_stats query = false
 
--- whether the answer to a query tells of samples
+-- whether the answer to a query tells of samples; a section does not, whose samples are told behind it
 abbrev pub tells_samples : Query → Bool
 tells_samples (queries.Sample p k) = true
 tells_samples (queries.Stat p) = true
@@ -50,13 +57,46 @@ IsPrintedOf (Some f) (Ok answer) printed =
     ⊎ (IsList answer × (printed ≡ query_reply (Err OutOfMemory)))
     ⊎ (IsOther answer × (printed ≡ query_reply (Ok answer)))
 
+-- whether a query is for a section
+abbrev pub asks_for_section : Query → Bool
+asks_for_section (queries.OfChosen c (Samples range)) = true
+asks_for_section query = false
+
+-- the section that a reply is
+abbrev pub section_in : Reply → Option Section
+section_in (Ok (answers.Section section)) = Some section
+section_in reply = None
+
+-- the section that is asked for, where it is answered
+abbrev pub section_asked : Query → Reply → Option Section
+section_asked query reply = if asks_for_section query then section_in reply else None
+
+-- of a section the samples are printed that its traces have at this volume, else what the reply prints
+abbrev pub IsPrintedBy : State → Option Section → Option FloatFormat → Reply → Printed → Type 0
+IsPrintedBy s None floats reply printed = IsPrintedOf floats reply printed
+IsPrintedBy s (Some section) floats reply printed = IsSectionPrinted s section printed
+
+-- what the reply to a query prints at this volume
+abbrev pub IsPrintedIn : State → Query → Reply → Printed → Type 0
+IsPrintedIn s query reply printed = IsPrintedBy s (section_asked query reply) (floats_asked s query) reply printed
+
+-- what a reply that is held prints at this volume; of a section its samples too
+abbrev pub Prints : State → Held → Printed → Type 0
+Prints s (replies.Section section) printed = IsSectionPrinted s section printed
+Prints s reply printed = printed ≡ printed_of reply
+
+-- the traces of a section that is held are there
+abbrev pub HasTraces : State → Held → Type 0
+HasTraces s (replies.Section section) = AreRising 1 (count_of s.volume) section.traces
+HasTraces s reply = ⊤
+
 -- a command with what it prints: an edit is one step, and tells of how many traces it was where it is one of chosen traces under
 -- conditions; a query changes nothing
 abbrev pub CommandStep : State → Command → Printed → State → Type 0
 CommandStep old (Apply edit) printed new =
     (reply : Result (Option ℕ) Refusal) × Step old edit reply new × (printed ≡ edit_reply reply) × IfOk reply (λ told. told ≡ told_of old edit)
 CommandStep old (Ask query) printed new =
-    (reply : Reply) × IsReply old query reply × IsPrintedOf (floats_asked old query) reply printed × (new ≡ old)
+    (reply : Reply) × IsReply old query reply × IsPrintedIn old query reply printed × (new ≡ old)
 
 -- a line that was read, with what it prints
 abbrev pub ReadStep : State → Result (Option Command) LineFault → Printed → State → Type 0

@@ -2,10 +2,10 @@
 ghost use Rattle.std.specs.Prelude.{◌≡◌, ℕ, List, IsTrue, true, false};
 ghost use Rattle.live_volume.specs.Held.{IsReadAs};
 ghost use Rattle.script_text.specs.Devices.{device_of};
-ghost use Rattle.script_text.specs.Held.{printed_of};
 ghost use Rattle.script_text.specs.Replies.{Printed};
 ghost use Rattle.script_words.specs.SessionWords.{session_word_of};
 ghost use Rattle.script_run.specs.Input.{Holds, Held, line_of};
+ghost use Rattle.script_run.specs.Runs.{HasTraces, Prints};
 ghost use Rattle.script_run.specs.Sessions.{standing, AnswerStep, SessionStep, WordStep};
 ghost use Rattle.script_run.specs.declared.session_lines.SessionLines.TheVariants.{Script, Whole};
 ghost use Rattle.script_run.specs.SessionLineRuns.{AnswersTo};
@@ -127,7 +127,7 @@ fn answer<A: Write, P: Saves>(
     ensures loaded { bench.new.loaded ≡ bench.old.loaded }
 {
     let reply = reply_to(alloc, bench, place, line, has_end);
-    write_reply(out, answers, &reply, b"\n")
+    write_reply(bench, out, answers, &reply, b"\n")
 }
 
 // The reply to one line. The last one, where it lacks its line feed, is not run.
@@ -138,10 +138,12 @@ fn reply_to<P: Saves>(
     line: &HeldLine,
     has_end: bool,
 ) -> Reply
-    ensures step { IsTrue bench.new.agreed → (text : List ℕ) → Holds line.now text →
+    ensures step { IsTrue bench.new.agreed → (printed : Printed) →
+        Prints bench.new.state result printed → (text : List ℕ) → Holds line.now text →
         AnswerStep (standing bench.old.state (P.place place.old bench.old.loaded))
         (line_of text has_end)
-        (printed_of result) (standing bench.new.state (P.place place.new bench.new.loaded)) }
+        printed (standing bench.new.state (P.place place.new bench.new.loaded)) }
+    ensures there { IsTrue bench.new.agreed → HasTraces bench.new.state result }
     ensures same { IsReadAs bench.old.state bench.new.state }
     ensures agreed { IsTrue bench.new.agreed → IsTrue bench.old.agreed }
     ensures loaded { bench.new.loaded ≡ bench.old.loaded }
@@ -157,9 +159,11 @@ fn reply_to<P: Saves>(
 
 // The reply to a line that was read whole.
 fn reply_to_text<P: Saves>(alloc: Global, bench: &mut Bench, place: &mut P, line: &[u8]) -> Reply
-    ensures step { IsTrue bench.new.agreed → WordStep (session_word_of line.now)
+    ensures step { IsTrue bench.new.agreed → (printed : Printed) →
+        Prints bench.new.state result printed → WordStep (session_word_of line.now)
         (standing bench.old.state (P.place place.old bench.old.loaded)) line.now
-        (printed_of result) (standing bench.new.state (P.place place.new bench.new.loaded)) }
+        printed (standing bench.new.state (P.place place.new bench.new.loaded)) }
+    ensures there { IsTrue bench.new.agreed → HasTraces bench.new.state result }
     ensures same { IsReadAs bench.old.state bench.new.state }
     ensures agreed { IsTrue bench.new.agreed → IsTrue bench.old.agreed }
     ensures loaded { bench.new.loaded ≡ bench.old.loaded }

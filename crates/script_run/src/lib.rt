@@ -28,6 +28,7 @@ mod running;
 mod saves;
 mod saving;
 mod script;
+mod sections;
 mod session_lines;
 mod session_repairs;
 mod told;

@@ -1,12 +1,16 @@
 // Runs the lines of a script over a volume.
-ghost use Rattle.std.specs.Prelude.{◌≡◌, ◌≤◌, ◌++◌, ℕ, length, IsTrue, MatchResult};
+ghost use Rattle.std.specs.Prelude.{◌≡◌, ◌≤◌, ◌++◌, ℕ, length, IsTrue, MatchResult, None, Ok};
+ghost use Rattle.frame_cut.specs.Traces.{count_of};
+ghost use Rattle.bench_rules.specs.Conditions.{AreRising};
+ghost use Rattle.bench_rules.specs.declared.answer.Answer.TheVariants as answers;
+ghost use Rattle.bench_rules.specs.declared.section.Section.{Section};
+ghost use Rattle.bench_rules.specs.State.{State};
 ghost use Rattle.live_volume.specs.Held.{IsReadAs};
 ghost use Rattle.script_text.specs.Devices.{device_of};
 ghost use Rattle.script_run.specs.Telling.{IsWritten};
-ghost use Rattle.script_text.specs.Held.{printed_of};
 ghost use Rattle.script_run.specs.LineRuns.{RunsLines};
 ghost use Rattle.script_text.specs.Replies.{Printed};
-ghost use Rattle.script_run.specs.Runs.{LineStep, CommandStep, IsPrintedOf, asks_for_stats as asks_for_stats_of, floats_asked, tells_samples as tells_samples_of};
+ghost use Rattle.script_run.specs.Runs.{LineStep, CommandStep, HasTraces, IsPrintedBy, IsPrintedOf, Prints, asks_for_section as asks_for_section_of, section_in, asks_for_stats as asks_for_stats_of, floats_asked, tells_samples as tells_samples_of};
 ghost use Rattle.script_words.specs.declared.command.Command.TheVariants.{Ask};
 
 use crate::lines_end::LinesEnd;
@@ -15,7 +19,7 @@ use bench_core::Bench;
 use bench_rules::{Answer, AskFault, ChosenQuery, Query};
 use device_io::{Sink, WriteFault};
 use float_codes::FloatFormat;
-use script_hints::{Notes, fault_of};
+use script_hints::{Fault, Notes, fault_of};
 use script_text::{OutBuffer, Reply};
 use script_words::{Command, Lines, parse_line};
 use shown_floats::shown;
@@ -91,13 +95,30 @@ fn answer_line<A: Write>(
     if let Some(fault) = fault_of(&reply) {
         notes.keep(number, line, fault);
     }
-    write_reply(out, answers, &reply, b"")
+    let told = write_reply(bench, out, answers, &reply, b"");
+    note_broken(notes, number, line, &told);
+    told
+}
+
+// Notes the line where its section ended in front of its last row.
+fn note_broken(notes: &mut Notes, number: u64, line: &[u8], told: &Result<Told, WriteFault>) {
+    if let Ok(
+        Told {
+            broken_by: Some(fault),
+            ..
+        },
+    ) = told
+    {
+        notes.keep(number, line, Fault::Query(*fault));
+    }
 }
 
 /// Runs one line.
 pub(crate) fn run_line(alloc: Global, bench: &mut Bench, line: &[u8]) -> Reply
-    ensures step { IsTrue bench.new.agreed →
-        LineStep bench.old.state line.now (printed_of result) bench.new.state }
+    ensures step { IsTrue bench.new.agreed → (printed : Printed) →
+        Prints bench.new.state result printed →
+        LineStep bench.old.state line.now printed bench.new.state }
+    ensures there { IsTrue bench.new.agreed → HasTraces bench.new.state result }
     ensures same { IsReadAs bench.old.state bench.new.state }
     ensures agreed { IsTrue bench.new.agreed → IsTrue bench.old.agreed }
     ensures loaded { bench.new.loaded ≡ bench.old.loaded }
@@ -111,8 +132,10 @@ pub(crate) fn run_line(alloc: Global, bench: &mut Bench, line: &[u8]) -> Reply
 }
 
 fn run_command(alloc: Global, bench: &mut Bench, command: &Command) -> Reply
-    ensures step { IsTrue bench.new.agreed →
-        CommandStep bench.old.state command.now (printed_of result) bench.new.state }
+    ensures step { IsTrue bench.new.agreed → (printed : Printed) →
+        Prints bench.new.state result printed →
+        CommandStep bench.old.state command.now printed bench.new.state }
+    ensures there { IsTrue bench.new.agreed → HasTraces bench.new.state result }
     ensures same { IsReadAs bench.old.state bench.new.state }
     ensures agreed { IsTrue bench.new.agreed → IsTrue bench.old.agreed }
     ensures loaded { bench.new.loaded ≡ bench.old.loaded }
@@ -125,14 +148,39 @@ fn run_command(alloc: Global, bench: &mut Bench, command: &Command) -> Reply
 
 // The reply to a query. Where it tells of samples that are floats, it has their words.
 fn answered(alloc: Global, bench: &mut Bench, query: &Query) -> Reply
-    ensures step { IsTrue bench.new.agreed →
-        CommandStep bench.old.state (Ask query.now) (printed_of result) bench.new.state }
+    ensures step { IsTrue bench.new.agreed → (printed : Printed) →
+        Prints bench.new.state result printed →
+        CommandStep bench.old.state (Ask query.now) printed bench.new.state }
+    ensures there { IsTrue bench.new.agreed → HasTraces bench.new.state result }
     ensures same { IsReadAs bench.old.state bench.new.state }
     ensures agreed { IsTrue bench.new.agreed → IsTrue bench.old.agreed }
     ensures loaded { bench.new.loaded ≡ bench.old.loaded }
 {
+    if asks_for_section(query) {
+        return section_reply(bench.ask(alloc, query));
+    }
     let floats = floats_of(bench, query);
     shown_reply(alloc, floats, bench.ask(alloc, query))
+}
+
+// Whether the query is for a section.
+fn asks_for_section(query: &Query) -> bool
+    ensures { result ≡ asks_for_section_of query.now }
+{
+    matches!(query, Query::OfChosen(_chosen, ChosenQuery::Samples(_)))
+}
+
+// The reply to a query for a section, whose samples are looked at while it is written.
+fn section_reply(reply: Result<Answer, AskFault>) -> Reply
+    ensures printed { (s : State) (printed : Printed) → Prints s result printed →
+        IsPrintedBy s (section_in reply) None reply printed }
+    ensures there { (s : State) → ((section : Section) → reply ≡ Ok (answers.Section section) →
+        AreRising 1 (count_of s.volume) section.traces) → HasTraces s result }
+{
+    match reply {
+        Ok(Answer::Section(section)) => Reply::Section(section),
+        _ => Reply::Asked(reply),
+    }
 }
 
 // The format of the samples that the answer tells of, where they are floats.
@@ -146,7 +194,7 @@ fn floats_of(bench: &Bench, query: &Query) -> Option<FloatFormat>
     }
 }
 
-// Whether the answer to the query tells of samples.
+// Whether the answer to the query tells of samples; a section tells of none itself.
 fn tells_samples(query: &Query) -> bool
     ensures { result ≡ tells_samples_of query.now }
 {
@@ -158,7 +206,7 @@ fn tells_samples(query: &Query) -> bool
     }
 }
 
-// Whether the samples of chosen traces are asked for.
+// Whether the statistics of the samples of chosen traces are asked for.
 fn asks_for_stats(query: &ChosenQuery) -> bool
     ensures { result ≡ asks_for_stats_of query.now }
 {
@@ -167,7 +215,9 @@ fn asks_for_stats(query: &ChosenQuery) -> bool
 
 // What is printed for the reply to a query.
 fn shown_reply(alloc: Global, floats: Option<FloatFormat>, reply: Result<Answer, AskFault>) -> Reply
-    ensures { IsPrintedOf floats reply (printed_of result) }
+    ensures printed { (s : State) (printed : Printed) → Prints s result printed →
+        IsPrintedOf floats reply printed }
+    ensures there { (s : State) → HasTraces s result }
 {
     let Some(format) = floats else {
         return Reply::Asked(reply);

@@ -1,9 +1,15 @@
 // Writes the reply to a line.
-ghost use Rattle.std.specs.Prelude.{◌≡◌};
+ghost use Rattle.std.specs.Prelude.{◌≡◌, IsTrue};
+ghost use Rattle.live_volume.specs.Held.{IsReadAs};
 ghost use Rattle.script_text.specs.Devices.{device_of};
 ghost use Rattle.script_text.specs.Held.{printed_of};
+ghost use Rattle.script_text.specs.Replies.{Printed};
+ghost use Rattle.script_run.specs.Runs.{HasTraces, Prints};
 ghost use Rattle.script_run.specs.Telling.{IsWritten, followed_by};
 
+use crate::sections::write_section;
+use bench_core::Bench;
+use bench_rules::AskFault;
 use device_io::{Sink, WriteFault};
 use script_text::{OutBuffer, Reply, is_refusal, push_reply};
 use std::io::Write;
@@ -15,10 +21,36 @@ pub(crate) struct Told {
     pub(crate) length: u64,
     /// Whether the line was refused.
     pub(crate) is_refusal: bool,
+    /// Why a section ends in front of its last row.
+    pub(crate) broken_by: Option<AskFault>,
 }
 
-/// Writes the whole text of a reply, and this behind it. Takes no memory.
+/// Writes the whole text of a reply, and this behind it. The traces of a section are looked at, one
+/// after another. Takes no memory.
 pub(crate) fn write_reply<A: Write>(
+    bench: &mut Bench,
+    out: &mut OutBuffer,
+    answers: &mut Sink<A>,
+    reply: &Reply,
+    behind: &[u8],
+) -> Result<Told, WriteFault>
+    ensures written { IsTrue bench.new.agreed → HasTraces bench.old.state reply.now →
+        (printed : Printed)
+        × Prints bench.old.state reply.now printed
+        × IsWritten (device_of A.contents answers.old) (device_of A.contents answers.new)
+        (followed_by behind.now printed) result }
+    ensures state { bench.new.state ≡ bench.old.state }
+    ensures agreed { IsTrue bench.new.agreed → IsTrue bench.old.agreed }
+    ensures loaded { bench.new.loaded ≡ bench.old.loaded }
+{
+    match reply {
+        Reply::Section(section) => write_section(bench, out, answers, section, behind),
+        _ => write_text(out, answers, reply, behind),
+    }
+}
+
+// The same of a reply whose text is made of it alone; of a section that is its first line.
+fn write_text<A: Write>(
     out: &mut OutBuffer,
     answers: &mut Sink<A>,
     reply: &Reply,
@@ -34,5 +66,6 @@ pub(crate) fn write_reply<A: Write>(
     Ok(Told {
         length: out.written(),
         is_refusal: is_refusal(reply),
+        broken_by: None,
     })
 }

@@ -32,6 +32,19 @@ fn prints_lists_of_reports(rt: HostRuntime) -> Result<(), Fail> {
     Ok(())
 }
 
+// The traces have the samples 1 and -2, 3 and 4, and -5 and 6.
+#[test]
+fn prints_samples_of_many_traces(rt: HostRuntime) -> Result<(), Fail> {
+    let file = sample_file(rt.alloc())?;
+    let script = b"samples 1 2 0 1\nset 1 crossline -21\nsamples all 1 9 3 where crossline >= 21\n\
+          samples 2 last 1 0\n\
+          samples all 0 1 0\nsamples 0 3 0 1\npatch 3 0 7\nsamples 3 3 0 4294967295 4294967295\n";
+    let printed = b"samples 2\n1 1 -2\n2 3 4\nok\nsamples 2\n2 4\n3 6\nsamples 2\n2\n3\n\
+          refused S03 number\nrefused E01 no trace 0 of 3\nok\nsamples 1\n3 7\n";
+    assert!(rt; prints(rt.alloc(), file.as_slice(), script, 2, printed)?);
+    Ok(())
+}
+
 // A thousand traces of one sample, each -5 on inline 10 and crossline -21.
 fn thousand_traces(alloc: Global) -> Result<Vec<u8>, Fail> {
     let mut file = vec![in alloc; 0u8; 245600]?;

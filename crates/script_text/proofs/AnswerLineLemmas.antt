@@ -33,7 +33,7 @@ use Rattle.script_text.specs.Texts.{with_blanks, list_lines, place_text, extensi
 use Rattle.script_text.specs.ReportTexts.{fraction_text, location_text, statistics_text, range_text, cell_text, numbered_text, fold_count_text, row_text, of_trace_text, fault_text, counted_statistics_text, trace_statistics_text}
 use Rattle.script_text.specs.HeaderTexts.{table_row_text, found_text, number_text, four_numbers, extremes_text}
 use Rattle.script_text.specs.AnswerTexts.{order_text, yes_or_no, info_text, code_text, stanza_text, field_text, shown_text, ranks_text, tail_text, trace_ranks_text}
-use Rattle.script_text.specs.SurveyTexts.{difference_text, grid_text, span_text, step_text, survey_text}
+use Rattle.script_text.specs.SurveyTexts.{difference_text, span_text, step_text, survey_text}
 use Rattle.script_text.specs.FullLines.{AnswersAreFullLines}
 use Rattle.script_text.proofs.ProblemLineLemmas.{full_problems}
 use Rattle.script_text.proofs.FullLineLemmas.{plain_both, plain_decimal, full_decimal, plain_signed, plain_numbers, plain_first, plain_joined, Plain, no_word, word, plain_words, full_joined, words_line, one_line, lines_behind, each_full, some_full}
@@ -248,3 +248,5 @@ answers_are_full_lines (answers.Extremes fields) h = a_list (codes "extremes") (
 answers_are_full_lines (answers.Chosen n) h = one_line (with_blanks (codes "chosen" ∷ decimal n ∷ [])) (words_line (codes "chosen") refl (word (decimal n) (plain_decimal n) no_word))
 answers_are_full_lines (answers.Stats traces) h = a_list (codes "stats") (map trace_statistics_text traces) refl (each_full trace_statistics_text full_trace_statistics traces)
 answers_are_full_lines (answers.FloatStats traces) h = a_list (codes "stats") (map trace_ranks_text traces) refl (each_full trace_ranks_text full_trace_ranks traces)
+answers_are_full_lines (answers.Section section) h =
+    one_line (with_blanks (codes "samples" ∷ decimal (length section.traces) ∷ [])) (words_line (codes "samples") refl (word (decimal (length section.traces)) (plain_decimal (length section.traces)) no_word))

@@ -1,20 +1,18 @@
 -- The texts of answers about samples that are floats are lines, none of which is empty.
-use Rattle.std.proofs.Common.{◌≡◌, ℕ, ℤ, ◌<◌, ◌==◌, Bool, true, false, not, List, [], ◌∷◌, map, refl, arith, ap, Option, Some, None}
-use Rattle.std.specs.Prelude.{codes, count_by, decimal, All, length, nat_lt, if◌then◌else◌}
+use Rattle.std.proofs.Common.{◌≡◌, ℕ, ℤ, ◌<◌, ◌==◌, Bool, true, false, List, [], ◌∷◌, map, refl, arith, Option, Some, None}
+use Rattle.std.specs.Prelude.{codes, count_by, decimal, All, if◌then◌else◌}
 use Rattle.std.specs.Fmt.{signed_decimal}
 use Rattle.std.specs.List.{list_all}
-use Rattle.std.proofs.lemmas.Bool.{ne_eqb, lt-ltb}
+use Rattle.std.proofs.lemmas.Bool.{ne_eqb}
 use Rattle.float_codes.specs.declared.float_format.FloatFormat.{FloatFormat}
-use Rattle.bench_rules.specs.declared.answer.Answer.{Answer}
 use Rattle.bench_rules.specs.declared.answer.Answer.TheVariants as answers
 use Rattle.trace_groups.specs.declared.problem.TraceProblem.{TraceProblem}
 use Rattle.trace_groups.specs.declared.problem.TraceProblem.TheVariants.{Loud}
 use Rattle.trace_groups.specs.declared.run.Run.{Run}
 use Rattle.bench_rules.specs.declared.problem_line.ProblemLine.{ProblemLine}
 use Rattle.bench_rules.specs.declared.problem_line.ProblemLine.TheVariants as lines
-use Rattle.shown_floats.specs.Shows.{rank_in, tells_sample, word_of, Shows, ShowsAny, ShowsEndsOf, ShowsNumbers, ShowsRank, ShowsStat, ShowsTotals}
+use Rattle.shown_floats.specs.Shows.{rank_in, tells_sample, word_of, ShowsAny, ShowsEndsOf, ShowsNumbers, ShowsRank, ShowsStat, ShowsTotals}
 use Rattle.shown_floats.specs.declared.float_answer.FloatRow.{FloatRow}
-use Rattle.shown_floats.specs.declared.float_answer.FloatAnswer.{FloatAnswer}
 use Rattle.shown_floats.specs.declared.float_answer.FloatAnswer.TheVariants as floats
 use Rattle.trace_record.specs.declared.statistics.Statistics.{Statistics}
 use Rattle.bench_rules.specs.declared.float_statistics.FloatStatistics.{FloatStatistics}
@@ -31,7 +29,7 @@ use Rattle.std.proofs.lemmas.List.Elements.{All-head, All-tail}
 use Rattle.script_text.proofs.FullLineLemmas.{counted_behind, full_decimal, plain_decimal, plain_signed, no_word, word, words_line, one_line}
 use Rattle.script_text.proofs.ProblemLineLemmas.{counted, full_problem}
 use Rattle.script_text.proofs.AnswerLineLemmas.{a_list}
-use Rattle.script_text.specs.FloatTexts.{float_answer_text, float_name, float_problem_text, float_problems_text, float_row_text, float_run_text, counted_stat_text, shown_trace_text, stat_text, totals_text, worded_problem_text}
+use Rattle.script_text.specs.FloatTexts.{float_name, float_problem_text, float_problems_text, float_row_text, float_run_text, counted_stat_text, shown_trace_text, stat_text, totals_text, worded_problem_text}
 use Rattle.script_text.specs.ProblemTexts.{begins_problem}
 use Rattle.script_text.specs.FullLines.{FloatAnswersAreFullLines}
 use Rattle.script_text.specs.Texts.{with_blanks, is_plain, is_full_line, IsFullLines}
@@ -44,7 +42,7 @@ plain_visible (c ∷ cs) h =
     let other : (c == 10) ≡ false = ne_eqb c 10 (λ e. absurd (omega (arith, e, first))) in
     rw (other, plain_visible cs (All-tail (λ x. 32 < x) c cs h)) refl
 
-plain_rank : (f : FloatFormat) (r : ℤ) (word : List ℕ) → ShowsRank f r word → is_plain word ≡ true
+pub plain_rank : (f : FloatFormat) (r : ℤ) (word : List ℕ) → ShowsRank f r word → is_plain word ≡ true
 plain_rank f r word h = plain_visible word h.visible
 
 full_stat : (f : FloatFormat) (s : Option FloatStatistics) (t : Option ShownStatistics) → ShowsStat f s t → is_full_line (stat_text t) ≡ true

@@ -6,3 +6,5 @@ pub mod ProblemLineLemmas
 pub mod AnswerLineLemmas
 pub mod PlainLemmas
 pub mod FloatLineLemmas
+pub mod SectionLemmas
+pub mod SectionLineLemmas

@@ -281,6 +281,7 @@ plain_of_each v fields h (chosen_queries.Table names) ps = plain_table_of_each v
 plain_of_each v fields h (chosen_queries.Find field low high) ps = plain_found_of_each v ps low high (place_in_trace fields field)
 plain_of_each v fields h chosen_queries.Extremes ps = plain_names (λ e. extremes_unless_zero (numbers_of_each v e.1 ps)) (named_places fields) (plain_places fields h)
 plain_of_each v fields h chosen_queries.Stats ps = plain_of_values v.head (Ok (statistics_of_each (has_floats v.head) v ps)) (plain_stats (has_floats v.head) v ps)
+plain_of_each v fields h (chosen_queries.Samples range) ps = plain_of_values v.head (Ok (answers.Section (record { traces = ps; samples = range }))) tt
 
 plain_of_chosen : (v : Volume) (fields : Pairs) → HasPlainNames fields → (query : ChosenQuery) (ps : Option (List ℕ)) → PlainReply (answer_of_chosen v fields query ps)
 plain_of_chosen v fields h query None = tt
@@ -353,7 +354,7 @@ plain_answer s (queries.OfChosen c query) h = plain_chosen s.volume s.fields h c
 
 -- ---- what is printed
 
-refused_full : (text : List ℕ) → is_plain text ≡ true → IsFullLines (refused_line text)
+pub refused_full : (text : List ℕ) → is_plain text ≡ true → IsFullLines (refused_line text)
 refused_full text e = one_line (codes "refused " ++ text) (full_joined (codes "refused ") refl (word text e no_word))
 
 plain_line_fault : (fault : LineFault) → is_plain (line_fault_text fault) ≡ true
@@ -406,7 +407,7 @@ plain_refusal (refusals.ZeroDivisor p) = plain_words (word (codes "E13 zero divi
 plain_refusal refusals.ReadFailed = refl
 plain_refusal refusals.FileChanged = refl
 
-plain_ask_fault : (fault : AskFault) → is_plain (ask_fault_text fault) ≡ true
+pub plain_ask_fault : (fault : AskFault) → is_plain (ask_fault_text fault) ≡ true
 plain_ask_fault (ask_faults.NoTrace p count) = plain_no_trace p count
 plain_ask_fault ask_faults.NoField = refl
 plain_ask_fault ask_faults.NoPlace = refl

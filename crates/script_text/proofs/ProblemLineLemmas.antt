@@ -1,9 +1,7 @@
 -- The lines about what is wrong or doubtful with a file have no line feed and are not empty.
-use Rattle.std.proofs.Common.{◌≡◌, ℕ, ℤ, List, [], ◌∷◌, ◌++◌, map, true, refl}
+use Rattle.std.proofs.Common.{◌≡◌, ℕ, ℤ, List, ◌++◌, map, true, refl}
 use Rattle.std.specs.Prelude.{codes, count_by, decimal}
 use Rattle.std.specs.Fmt.{signed_decimal}
-use Rattle.std.specs.List.{list_all}
-use Rattle.line_problems.specs.declared.missing.MissingRun.{MissingRun}
 use Rattle.line_problems.specs.declared.survey_numbers.NoSurvey.{NoSurvey}
 use Rattle.line_problems.specs.declared.folds.UnevenFold.{UnevenFold}
 use Rattle.trace_groups.specs.declared.run.Run.{Run}
@@ -12,7 +10,7 @@ use Rattle.trace_groups.specs.declared.problem.TraceProblem.TheVariants as probl
 use Rattle.bench_rules.specs.declared.problem_line.ProblemLine.{ProblemLine}
 use Rattle.bench_rules.specs.declared.problem_line.ProblemLine.TheVariants as lines
 use Rattle.script_text.specs.Texts.{is_plain, is_full_line, IsFullLines}
-use Rattle.script_text.specs.ProblemTexts.{begins_problem, code_of_problem, fact_words, fold_text, missing_run_text, missing_text, no_survey_text, one_fact, problem_text, problems_text, run_text, two_facts}
+use Rattle.script_text.specs.ProblemTexts.{begins_problem, code_of_problem, fact_words, fold_text, missing_text, no_survey_text, one_fact, problem_text, problems_text, two_facts}
 use Rattle.script_text.proofs.FullLineLemmas.{counted_behind, each_full, full_joined, no_word, Plain, plain_decimal, plain_signed, word, words_line}
 
 plain_code : (p : TraceProblem) → is_plain (code_of_problem p) ≡ true

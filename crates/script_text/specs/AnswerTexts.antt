@@ -1,5 +1,5 @@
 -- What is printed for an answer.
-use Rattle.std.specs.Prelude.{ℕ, Bool, List, [], ◌∷◌, ◌++◌, map, decimal, codes, if◌then◌else◌, Option, Some, None}
+use Rattle.std.specs.Prelude.{ℕ, Bool, List, [], ◌∷◌, ◌++◌, length, map, decimal, codes, if◌then◌else◌, Option, Some, None}
 use Rattle.std.specs.Fmt.{signed_decimal}
 use Rattle.num_order.specs.declared.order.Order.{Order}
 use Rattle.num_order.specs.declared.order.Order.TheVariants.{Big, Little}
@@ -15,6 +15,7 @@ use Rattle.bench_rules.specs.declared.trace_statistics.FloatTraceStatistics.{Flo
 use Rattle.text_block.specs.Lines.{without_blanks}
 use Rattle.script_text.specs.HeaderTexts.{table_row_text, found_text, number_text, extremes_text}
 use Rattle.script_text.specs.ProblemTexts.{problems_text}
+use Rattle.script_text.specs.SectionTexts.{section_head}
 use Rattle.script_text.specs.SurveyTexts.{survey_text}
 use Rattle.script_text.specs.ReportTexts.{location_text, statistics_text, range_text, cell_text, numbered_text, fold_count_text, row_text, fault_text, trace_statistics_text}
 use Rattle.script_text.specs.Texts.{with_blanks, with_line_end, list_lines, place_text}
@@ -74,7 +75,7 @@ ranks_text (Some s) = with_blanks (codes "stat ranks" ∷ signed_decimal s.least
 abbrev pub trace_ranks_text : FloatTraceStatistics → List ℕ
 trace_ranks_text t = with_blanks (ranks_text t.statistics ∷ codes "trace" ∷ decimal t.position ∷ codes "zeros" ∷ decimal t.zeros ∷ [])
 
--- an answer, each line with its end
+-- an answer, each line with its end; of a section the first line, behind which its rows are printed while their traces are looked at
 abbrev pub answer_text : Answer → List ℕ
 answer_text (answers.Count n) = with_line_end (with_blanks (codes "traces" ∷ decimal n ∷ []))
 answer_text (answers.Info info) = with_line_end (info_text info)
@@ -105,3 +106,4 @@ answer_text (answers.Extremes fields) = list_lines (codes "extremes") (map extre
 answer_text (answers.Chosen n) = with_line_end (with_blanks (codes "chosen" ∷ decimal n ∷ []))
 answer_text (answers.Stats traces) = list_lines (codes "stats") (map trace_statistics_text traces)
 answer_text (answers.FloatStats traces) = list_lines (codes "stats") (map trace_ranks_text traces)
+answer_text (answers.Section section) = section_head (length section.traces)

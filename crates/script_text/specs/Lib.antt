@@ -15,3 +15,4 @@ pub mod SurveyExamples
 pub mod ProblemExamples
 pub mod HeaderExamples
 pub mod FullLines
+pub mod SectionTexts

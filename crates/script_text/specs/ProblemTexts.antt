@@ -1,10 +1,9 @@
 -- What is printed for what is wrong or doubtful with a file.
-use Rattle.std.specs.Prelude.{ℕ, ℤ, Bool, true, false, List, [], ◌∷◌, ◌++◌, map, count_by, decimal, codes}
+use Rattle.std.specs.Prelude.{ℕ, ℤ, Bool, true, false, List, [], ◌∷◌, map, count_by, decimal, codes}
 use Rattle.std.specs.Fmt.{signed_decimal}
 use Rattle.line_problems.specs.declared.missing.MissingRun.{MissingRun}
 use Rattle.line_problems.specs.declared.survey_numbers.NoSurvey.{NoSurvey}
 use Rattle.line_problems.specs.declared.folds.UnevenFold.{UnevenFold}
-use Rattle.cell_positions.specs.declared.trace_pair.TracePair.{TracePair}
 use Rattle.trace_groups.specs.declared.run.Run.{Run}
 use Rattle.trace_groups.specs.declared.problem.TraceProblem.{TraceProblem}
 use Rattle.trace_groups.specs.declared.problem.TraceProblem.TheVariants as problems

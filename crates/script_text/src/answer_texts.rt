@@ -10,6 +10,7 @@ use crate::long_texts::{LongLine, push_long_list};
 use crate::out_buffer::OutBuffer;
 use crate::problem_texts::push_problems;
 use crate::report_texts::{location_line, range_line, statistics_line};
+use crate::section_texts::push_section_head;
 use crate::survey_texts::survey_line;
 use crate::table_texts::push_table;
 use crate::text_buffer::TextBuffer;
@@ -56,6 +57,9 @@ pub(crate) fn push_answer<W: Write>(
         Answer::Count(count) => out.push(writer, numbered_line(b"traces ", *count).as_slice()),
         Answer::Stats(traces) => push_list(out, writer, b"stats", b"", traces.as_slice()),
         Answer::FloatStats(traces) => push_list(out, writer, b"stats", b"", traces.as_slice()),
+        Answer::Section(section) => {
+            push_section_head(out, writer, section.traces.as_slice().len() as u64)
+        }
         Answer::Chosen(count) => out.push(writer, numbered_line(b"chosen ", *count).as_slice()),
         Answer::Info(info) => out.push(writer, info_line(*info).as_slice()),
         Answer::Value(value) => out.push(writer, numbered_line(b"value ", *value).as_slice()),

@@ -2,7 +2,7 @@
 ghost use Rattle.std.specs.Prelude.{◌≡◌, ◌≤◌, ◌+◌, ◌++◌, [], codes, length};
 ghost use Rattle.shown_floats.specs.Shows.{word_of};
 ghost use Rattle.script_text.specs.Devices.{device_of};
-ghost use Rattle.script_text.specs.FloatTexts.{float_answer_text, float_row_text, stat_text, totals_text, word_or_none, least_of, greatest_of, ends_in, sum_in};
+ghost use Rattle.script_text.specs.FloatTexts.{float_answer_text, float_row_text, stat_text, totals_text, word_or_none, least_of, greatest_of};
 ghost use Rattle.script_text.specs.Printing.{Pushes};
 ghost use Rattle.script_text.specs.Texts.{with_line_end};
 

@@ -1,6 +1,6 @@
 // The lines that are printed for refusals.
-ghost use Rattle.std.specs.Prelude.{◌≡◌, ◌≤◌, ◌+◌, ◌++◌, length};
-ghost use Rattle.script_text.specs.RefusalTexts.{load_fault_text, load_refusal_line, script_fault_text, script_refusal_line, line_fault_text, session_fault_text, refusal_text, ask_fault_text, no_trace, no_sample, text_fault_text, map_fault_text, refused_line};
+ghost use Rattle.std.specs.Prelude.{◌≡◌, ◌≤◌, ◌++◌, length};
+ghost use Rattle.script_text.specs.RefusalTexts.{load_fault_text, load_refusal_line, script_refusal_line, line_fault_text, session_fault_text, refusal_text, ask_fault_text, no_trace, no_sample, text_fault_text, map_fault_text, refused_line};
 ghost use Rattle.script_text.specs.Replies.{saved_line as line_of_save};
 ghost use Rattle.script_text.specs.declared.session_fault.SessionFault.TheVariants.{SaveFailed};
 
@@ -119,7 +119,7 @@ pub(crate) fn refusal_line(refusal: Refusal) -> TextBuffer
     line
 }
 
-/// The line for a refused query.
+// The line for a refused query.
 pub(crate) fn ask_fault_line(fault: AskFault) -> TextBuffer
     ensures { result ≡ refused_line (ask_fault_text fault) }
 {

@@ -10,8 +10,9 @@ use crate::out_buffer::OutBuffer;
 use crate::refusal_texts::{
     ask_fault_line, line_fault_line, refusal_line, saved_line, session_fault_line,
 };
+use crate::section_texts::push_section_head;
 use crate::session_fault::SessionFault;
-use bench_rules::{Answer, AskFault, Refusal};
+use bench_rules::{Answer, AskFault, Refusal, Section};
 use device_io::{Sink, WriteFault};
 use script_words::LineFault;
 use shown_floats::FloatAnswer;
@@ -33,6 +34,8 @@ pub enum Reply {
     Asked(Result<Answer, AskFault>),
     /// The line is a query that tells of samples that are floats.
     Floats(FloatAnswer),
+    /// The line is a query for samples, which are looked at while they are printed.
+    Section(Section),
 }
 
 /// Whether a reply is a refusal.
@@ -44,13 +47,15 @@ pub fn is_refusal(reply: &Reply) -> bool
         | Reply::Session(Ok(_))
         | Reply::Edited(Ok(_))
         | Reply::Asked(Ok(_))
-        | Reply::Floats(_) => false,
+        | Reply::Floats(_)
+        | Reply::Section(_) => false,
         Reply::Fault(_) | Reply::Session(Err(_)) | Reply::Edited(Err(_)) | Reply::Asked(Err(_)) =>
             true,
     }
 }
 
-/// Pushes the text of a reply, the first one since the buffer began. Takes no memory.
+/// Pushes the text of a reply, the first one since the buffer began: of a section its first line
+/// alone. Takes no memory.
 pub fn push_reply<W: Write>(
     out: &mut OutBuffer,
     writer: &mut Sink<W>,
@@ -72,6 +77,9 @@ pub fn push_reply<W: Write>(
         Reply::Edited(Err(refusal)) => out.push(writer, refusal_line(*refusal).as_slice()),
         Reply::Asked(Ok(answer)) => push_answer(out, writer, answer),
         Reply::Floats(answer) => push_floats(out, writer, answer),
+        Reply::Section(section) => {
+            push_section_head(out, writer, section.traces.as_slice().len() as u64)
+        }
         Reply::Asked(Err(fault)) => out.push(writer, ask_fault_line(*fault).as_slice()),
     }
 }

@@ -1,5 +1,4 @@
 // The lines that are printed for a table.
-ghost use Rattle.std.specs.Prelude.{◌≡◌};
 ghost use Rattle.script_text.specs.AnswerTexts.{answer_text};
 ghost use Rattle.script_text.specs.Devices.{device_of};
 ghost use Rattle.script_text.specs.HeaderTexts.{table_row_text};

@@ -1,6 +1,6 @@
 // A text that is built from its end to its front: the digits of a number, which come last first,
 // are written where they stay.
-ghost use Rattle.std.specs.Prelude.{◌≡◌, ◌≤◌, ◌<◌, ◌+◌, ◌^◌, ◌++◌, ◌∷◌, [], decimal, length};
+ghost use Rattle.std.specs.Prelude.{◌≡◌, ◌≤◌, ◌<◌, ◌+◌, ◌++◌, ◌∷◌, [], decimal, length};
 ghost use Rattle.std.specs.Fmt.{signed_decimal};
 
 use itoa::{Buffer, write_digits};

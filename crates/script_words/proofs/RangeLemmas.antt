@@ -1,5 +1,5 @@
 -- Commands on a range of traces, from what was read of their words.
-use Rattle.std.proofs.Common.{◌≡◌, ◌⊎◌, sym, ap, subst, refl, inl, inr, ℕ, List, [], ◌∷◌, Bool, true, false, cond, is_some, Option, Some, None, Result, Ok, Err, ok_or, option_map, option_and_then}
+use Rattle.std.proofs.Common.{◌≡◌, ◌⊎◌, sym, ap, subst, refl, inl, inr, ℕ, ◌==◌, length, List, [], ◌∷◌, Bool, true, false, cond, is_some, Option, Some, None, Result, Ok, Err, ok_or, option_map, option_and_then}
 use Rattle.std.specs.Option.{option_map_or}
 use Rattle.std.specs.Result.{IsErrAnd}
 use Rattle.bench_rules.specs.declared.chosen_edit.ChosenEdit.{ChosenEdit}
@@ -15,10 +15,10 @@ use Rattle.script_words.specs.declared.command.Command.TheVariants.{Apply, Ask}
 use Rattle.script_words.specs.declared.line_fault.LineFault.{LineFault}
 use Rattle.script_words.specs.declared.line_fault.LineFault.TheVariants.{Words, Number, OutOfMemory}
 use Rattle.script_words.specs.declared.range_command.RangeCommand.{RangeCommand}
-use Rattle.script_words.specs.declared.range_command.RangeCommand.TheVariants.{Table, Find, Extremes, Set, Renumber, Compute, Delete, Count, Stats, Swap, Fill}
+use Rattle.script_words.specs.declared.range_command.RangeCommand.TheVariants.{Table, Find, Extremes, Set, Renumber, Compute, Delete, Count, Stats, Swap, Samples, Fill}
 use Rattle.script_words.specs.Conditions.{has_conditions, conditions_of}
 use Rattle.script_words.specs.HeaderCommands.{is_field_count, is_step_count}
-use Rattle.script_words.specs.Numbers.{number_of, position_of, sample_number, trace_of}
+use Rattle.script_words.specs.Numbers.{number_of, position_of, sample_number, step_of, trace_of}
 use Rattle.script_words.specs.RangeCommands.{read_each}
 use Rattle.script_words.specs.Ranges.{is_of_none, spelled, of_range, of_conditions, by_conditions, under, read_under, has_range, edit_parts, query_parts, chosen_of}
 use Rattle.script_words.specs.Readers.{two, four, five, two_and_list, four_and_list, field_of, operand_of, fields_of, steps_of}
@@ -45,6 +45,10 @@ mapped f (Some x) h = h x
 fits_or_not : (fits : Bool) (r : Read) → IsOfRange r → IsOfRange (cond fits r (Err Words))
 fits_or_not true r h = h
 fits_or_not false r h = inl refl
+
+step_or_none : (five : Bool) (r s : Read) → IsOfRange r → IsOfRange s → IsOfRange (cond five r s)
+step_or_none true r s h g = h
+step_or_none false r s h g = g
 
 module _ {A B C D E : Type 0} (a : List ℕ → Option A) (b : List ℕ → Option B) (c : List ℕ → Option C) (d : List ℕ → Option D) (e : List ℕ → Option E) where
   two_of_range : (make : A → B → Command) → ((x : A) (y : B) → has_range (make x y) ≡ true) → (ws : List (List ℕ)) → IsOfRange (two a b make ws)
@@ -97,6 +101,9 @@ each_of_range traces Delete ws = two_of_range (trace_of traces) (trace_of traces
 each_of_range traces Count ws = two_of_range (trace_of traces) (trace_of traces) (trace_of traces) (trace_of traces) (trace_of traces) _ (λ a b. refl) ws
 each_of_range traces Stats ws = two_of_range (trace_of traces) (trace_of traces) (trace_of traces) (trace_of traces) (trace_of traces) _ (λ a b. refl) ws
 each_of_range traces Swap ws = four_of_range (trace_of traces) (trace_of traces) field_of field_of field_of _ (λ a b k l. refl) ws
+each_of_range traces Samples ws =
+    step_or_none (length ws == 5) _ _ (five_of_range (trace_of traces) (trace_of traces) position_of position_of step_of _ (λ a b k l m. refl) ws)
+    (four_of_range (trace_of traces) (trace_of traces) position_of position_of position_of _ (λ a b k l. refl) ws)
 each_of_range traces (Fill floats) ws = five_of_range (trace_of traces) (trace_of traces) position_of position_of (sample_number floats) _ (λ a b k l m. refl) ws
 
 -- ---- memory of commands on chosen traces

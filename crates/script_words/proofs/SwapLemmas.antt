@@ -1,5 +1,5 @@
 -- A command of two traces and two fields, from what was read of its words.
-use Rattle.std.proofs.Common.{◌≡◌, ◌⊎◌, inl, inr, ap, refl, true, false, is_some, ℕ, List, [], ◌∷◌, Option, Some, None, Result, Ok, Err, ok_or, option_map, option_and_then}
+use Rattle.std.proofs.Common.{◌≡◌, inl, inr, refl, true, false, is_some, ℕ, List, [], ◌∷◌, Option, Some, None, Result, Ok, Err, ok_or, option_map, option_and_then}
 use Rattle.std.specs.Result.{IsErrAnd}
 use Rattle.bench_rules.specs.declared.chosen_edit.ChosenEdit.TheVariants as chosen_edits
 use Rattle.bench_rules.specs.declared.edit.Edit.TheVariants as edits

@@ -7,10 +7,10 @@ use Rattle.bench_rules.specs.declared.query.Query.TheVariants as queries
 use Rattle.script_words.specs.declared.command.Command.{Command}
 use Rattle.script_words.specs.declared.command.Command.TheVariants.{Apply, Ask}
 use Rattle.script_words.specs.declared.range_command.RangeCommand.{RangeCommand}
-use Rattle.script_words.specs.declared.range_command.RangeCommand.TheVariants.{Table, Find, Extremes, Set, Renumber, Compute, Delete, Count, Stats, Swap, Fill}
+use Rattle.script_words.specs.declared.range_command.RangeCommand.TheVariants.{Table, Find, Extremes, Set, Renumber, Compute, Delete, Count, Stats, Swap, Samples, Fill}
 use Rattle.script_words.specs.HeaderCommands.{read_table, read_find, read_extremes, read_compute, read_header, read_sort}
 use Rattle.float_codes.specs.declared.float_format.FloatFormat.{FloatFormat}
-use Rattle.script_words.specs.Numbers.{number_of, position_of, sample_number, trace_of}
+use Rattle.script_words.specs.Numbers.{number_of, position_of, sample_number, step_of, trace_of}
 use Rattle.script_words.specs.Ranges.{is_all, of_range, ranged}
 use Rattle.script_words.specs.Readers.{Reader, field_of, alone, one, two, three, four, five}
 use Rattle.script_words.specs.ReportCommands.{report_commands}
@@ -57,6 +57,23 @@ read_count_each traces = two (trace_of traces) (trace_of traces) (λ a b. Ask (q
 abbrev pub read_stats_each : ℕ → Reader Command
 read_stats_each traces = two (trace_of traces) (trace_of traces) (λ a b. Ask (queries.OfChosen (record { traces = Some (a, b); conditions = [] }) chosen_queries.Stats))
 
+-- samples FROM to TO by a step of traces P to Q
+abbrev pub samples_each : (a b from to step : ℕ) → Command
+samples_each a b from to step =
+    Ask (queries.OfChosen (record { traces = Some (a, b); conditions = [] }) (chosen_queries.Samples (record { from = from; to = to; step = step })))
+
+-- `samples P Q FROM TO`: each of them
+abbrev pub read_samples_plain : ℕ → Reader Command
+read_samples_plain traces = four (trace_of traces) (trace_of traces) position_of position_of (λ a b from to. samples_each a b from to 1)
+
+-- `samples P Q FROM TO STEP`
+abbrev pub read_samples_by_step : ℕ → Reader Command
+read_samples_by_step traces = five (trace_of traces) (trace_of traces) position_of position_of step_of samples_each
+
+-- the number of words tells which
+abbrev pub read_samples : ℕ → Reader Command
+read_samples traces words = if length words == 5 then read_samples_by_step traces words else read_samples_plain traces words
+
 -- the command, where two words tell its range
 abbrev pub read_each : ℕ → RangeCommand → Reader Command
 read_each traces Table = read_table traces
@@ -69,6 +86,7 @@ read_each traces Delete = read_delete_each traces
 read_each traces Count = read_count_each traces
 read_each traces Stats = read_stats_each traces
 read_each traces Swap = read_swap traces
+read_each traces Samples = read_samples traces
 read_each traces (Fill floats) = read_fill floats traces
 
 -- `set` without conditions: of one trace, or of a range where `all` or the number of words tells one
@@ -102,6 +120,7 @@ header_commands floats traces =
     ∷ (codes "delete", read_ranged floats traces Delete)
     ∷ (codes "count", read_ranged floats traces Count)
     ∷ (codes "stats", read_ranged floats traces Stats)
+    ∷ (codes "samples", read_ranged floats traces Samples)
     ∷ (codes "swap", read_ranged floats traces Swap)
     ∷ (codes "sort", of_range traces (read_sort traces))
     ∷ (codes "header", read_header traces)

@@ -1,5 +1,5 @@
 // The conditions of a command, and where they stand in its line.
-ghost use Rattle.std.specs.Prelude.{◌≡◌, is_some, length, min, Some, None, IfSome, IfNone, if◌then◌else◌};
+ghost use Rattle.std.specs.Prelude.{◌≡◌, is_some, Some, None, IfSome, IfNone, if◌then◌else◌};
 ghost use Rattle.script_words.specs.declared.line_fault.LineFault.TheVariants.{OutOfMemory as no_memory, Number as no_number};
 ghost use Rattle.script_words.specs.Words.{words_of};
 ghost use Rattle.script_words.specs.Conditions.{comparison_of, condition_of, decimal_of, is_extreme as is_an_extreme, is_to_be_decimal, side_of, are_joined as all_joined, has_conditions as has_all, conditions_of, begins_conditions as begin_conditions, in_front, behind_where};

@@ -42,6 +42,7 @@ pub(crate) fn of_headers(
         "delete" => ranged(alloc, floats, traces, RangeCommand::Delete, words),
         "count" => ranged(alloc, floats, traces, RangeCommand::Count, words),
         "stats" => ranged(alloc, floats, traces, RangeCommand::Stats, words),
+        "samples" => ranged(alloc, floats, traces, RangeCommand::Samples, words),
         "swap" => ranged(alloc, floats, traces, RangeCommand::Swap, words),
         "sort" => sort(alloc, traces, words),
         "header" => header(traces, words),

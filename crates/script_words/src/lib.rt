@@ -28,6 +28,7 @@ mod parse;
 mod range_command;
 mod ranges;
 mod report_commands;
+mod samples_command;
 mod session_words;
 mod sort_command;
 mod split;

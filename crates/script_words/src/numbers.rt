@@ -1,6 +1,6 @@
 // Words that are numbers.
 ghost use Rattle.std.specs.Prelude.{◌≡◌, ◌≤◌, ◌^◌, neg_ℤ, pos};
-ghost use Rattle.script_words.specs.Numbers.{natural_up_to, number_of, sample_number, rank_read as rank_of_reading, position_of, trace_of, new_place_of, is_to_be_number};
+ghost use Rattle.script_words.specs.Numbers.{natural_up_to, number_of, sample_number, rank_read as rank_of_reading, position_of, step_of, trace_of, new_place_of, is_to_be_number};
 
 use float_codes::FloatFormat;
 use float_text::Reading;
@@ -69,6 +69,14 @@ pub(crate) fn position(word: &str) -> Option<u32>
         return None;
     }
     Some(value as u32)
+}
+
+/// The step that a word is: a position above 0.
+pub(crate) fn step(word: &str) -> Option<u32>
+    ensures { result ≡ step_of word.now }
+{
+    let step = position(word)?;
+    if step == 0 { None } else { Some(step) }
 }
 
 /// The trace that a word is: a position, or for `last` the number of traces.

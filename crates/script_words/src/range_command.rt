@@ -13,6 +13,7 @@ pub(crate) enum RangeCommand {
     Count,
     Stats,
     Swap,
+    Samples,
 
     /// The format of samples, where they are floats, tells how a value is read.
     Fill(Option<FloatFormat>),

@@ -17,6 +17,7 @@ use crate::many_commands::{
 };
 use crate::parse::query_alone;
 use crate::range_command::RangeCommand;
+use crate::samples_command::samples_each;
 use crate::sort_command::sort_each;
 use crate::swap_command::swap_each;
 use crate::words::{Words, is_all, number_of_words};
@@ -90,6 +91,7 @@ fn each(alloc: Global, traces: u32, which: RangeCommand, words: Words) -> Result
         RangeCommand::Count => count_each(alloc, traces, words),
         RangeCommand::Stats => stats_each(alloc, traces, words),
         RangeCommand::Swap => swap_each(alloc, traces, words),
+        RangeCommand::Samples => samples_each(alloc, traces, words),
         RangeCommand::Fill(floats) => fill_each(alloc, floats, traces, words),
     }
 }

@@ -1,5 +1,5 @@
 -- The words that show floats.
-use Rattle.std.specs.Prelude.{ℕ, ℤ, ◌≡◌, ◌<◌, ⊤, Bool, true, false, List, All, length, map, take, Option, Some, None, Result, Ok, Err, if◌then◌else◌}
+use Rattle.std.specs.Prelude.{ℕ, ℤ, ◌≡◌, ◌<◌, ⊤, Bool, true, false, List, All, length, map, take, Option, Some, None, if◌then◌else◌}
 use Rattle.std.specs.Ordering.{int_eq}
 use Rattle.num_order.specs.Number.{is_between}
 use Rattle.float_codes.specs.declared.float_format.FloatFormat.{FloatFormat}
@@ -122,3 +122,7 @@ IsList (answers.Slice rows) = ⊤
 IsList (answers.Problems lines) = ⊤
 IsList (answers.FloatStats traces) = ⊤
 IsList answer = ⊥
+
+-- each rank has a word that shows it
+abbrev pub EachRankIsShown : Type 0
+EachRankIsShown = (f : FloatFormat) (r : ℤ) → (word : List ℕ) × ShowsRank f r word

@@ -7,6 +7,7 @@
 
 mod float_answer;
 mod float_word;
+mod laws;
 mod problems;
 mod showing;
 mod wording;
@@ -15,4 +16,5 @@ pub use crate::float_answer::{
     FloatAnswer, FloatRow, ShownEnds, ShownProblem, ShownStatistics, ShownTotals, ShownTrace,
 };
 pub use crate::float_word::FloatWord;
+pub use crate::laws::each_rank_is_shown;
 pub use crate::showing::shown;

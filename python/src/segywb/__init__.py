@@ -28,6 +28,7 @@ from .gains import Gain
 from .grids import Grid, Slice
 from .history import Step
 from .looks import Look, look
+from .many_samples import Samples
 from .problems import Problem, ProblemRun
 from .repairs import InPlace, Recovered, recover
 from .sections import Section
@@ -39,7 +40,7 @@ __version__ = "0.1.0"
 __all__ = [
     "Answer", "BinField", "Closed", "CsvImport", "CsvRefused", "Error", "Extremes", "Fault", "FileChanged", "Fit", "FitRefused", "FloatStatistics",
     "FloatTotals", "Gain", "Geometry", "Grid", "InPlace", "Info", "LoadRefused", "Look", "OptionRefused", "PathRefused", "Problem", "ProblemRun", "ProgramEnded", "ProgramNotFound",
-    "Recovered", "Refused", "RepairCutOff", "SaveFailed", "Section", "Slice", "Stanza", "Statistics", "Step", "TraceField", "Volume", "look", "open", "recover", "tools",
+    "Recovered", "Refused", "RepairCutOff", "SaveFailed", "Samples", "Section", "Slice", "Stanza", "Statistics", "Step", "TraceField", "Volume", "look", "open", "recover", "tools",
 ]
 
 

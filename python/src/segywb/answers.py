@@ -150,7 +150,8 @@ class Answer(NamedTuple):
         ...     answer.refused.code, answer.refused.text
         ('E01', 'no trace 99 of 12')
         """
-        return Refused(self.text, self.line) if self.text.startswith("refused ") else None
+        told = refusal_in(self.text)
+        return None if told is None else Refused(told, self.line)
 
     @property
     def accepted(self) -> bool:
@@ -176,6 +177,19 @@ class Answer(NamedTuple):
 
 _OK = re.compile(r"ok(?: [0-9]+)?")
 _ALL_OK = re.compile(rb"(?:ok(?: [0-9]+)?\n\n)*")
+
+
+def refusal_in(answer: str) -> Optional[str]:
+    """The refusal that an answer is, or that ends it: that of a trace that could not be read stands
+    behind the rows of ``samples`` in front of it.
+
+    >>> refusal_in("refused E01 no trace 9 of 3"), refusal_in("samples 2\\n1 5\\nrefused E14 read failed")
+    ('refused E01 no trace 9 of 3', 'refused E14 read failed')
+    >>> refusal_in("samples 1\\n1 5"), refusal_in("ok")
+    (None, None)
+    """
+    last = answer[answer.rfind("\n") + 1 :] if answer.startswith("samples ") else answer
+    return last if last.startswith("refused ") else None
 
 
 def accepted(answer: str) -> bool:

@@ -2,15 +2,14 @@
 
 from __future__ import annotations
 
-from contextlib import closing
-from typing import Any, List, Optional, Union
+from typing import Any, List, Optional, Sequence, Union
 
-from . import answers, arrays, lines, many_stats
+from . import answers, lines, many_samples, many_stats
 from .answers import FloatStatistics, FloatTotals, Stanza, Statistics
 from .asked import FLOATS, NARROW
-from .engine import BATCH_LINES
 from .headers import Headers, rows_of
-from .lines import Field, between, choosing, encode, number, position
+from .lines import Field, between, choosing, number, position
+from .many_samples import MOST, Kind, Samples
 
 # The sample formats of 8 bytes, whose sums may need more.
 WIDE = (9, 12)
@@ -161,19 +160,45 @@ class Contents(Headers):
         ...     v.samples(1).tolist()
         [11, 41, -101, 29, 0]
         """
-        told = self.stat(trace)
-        count = told.samples if told else 0
-        first = f"sample {position(trace)} "
-        sent = ((encode("".join(f"{first}{k}\n" for k in range(at, min(at + BATCH_LINES, count)))), min(BATCH_LINES, count - at))
-                for at in range(0, count, BATCH_LINES))
-        with closing(self._engine.stream(sent)) as stream:
-            return self._numbers(b"".join(stream).replace(b"value ", b""), count)
+        return self._samples([int(position(trace))], range(MOST + 1), 1).array[0]
 
-    def _numbers(self, data: bytes, count: int) -> Any:
-        """So many samples."""
-        if self.has_floats:
-            return arrays.floats(data, count, self.sample_type == "f4")
-        return arrays.parse(data, count, self.sample_type == "u8")
+    def samples_of(
+        self, traces: Any = None, samples: Any = None, where: Optional[str] = None
+    ) -> Samples:
+        """Samples of many traces: ``array`` has a row for each trace and a column for each number
+        of a sample, ``traces`` the positions of the traces, ``samples`` the numbers of the columns.
+
+        ``traces`` as for ``headers``; all where it is left out. ``samples`` is a slice that counts
+        from 0 and leaves its end out, as ever in Python, or a range: ``v.samples_of(slice(1, 5),
+        slice(0, 100))`` are the first hundred of the traces 1 to 4, and ``slice(None, None, 8)`` is
+        each eighth. It has no negative numbers, since traces may end elsewhere. With ``where`` of
+        the traces that meet its conditions (see ``count``).
+
+        Columns that no trace has are left out. Where traces are of different lengths the array is a
+        masked one (``numpy.ma``). Without numpy it is a list of lists, each as long as its trace has
+        samples.
+
+        >>> with segywb.open("cube.sgy") as v:
+        ...     array, traces, samples = v.samples_of(samples=slice(0, 3), where="inline = 102")
+        ...     array.tolist(), traces.tolist(), samples.tolist()
+        ([[21, 41, -102], [22, 42, -102], [23, 43, -102], [24, 44, -102]], [5, 6, 7, 8], [0, 1, 2])
+        >>> with segywb.open("cube.sgy") as v:
+        ...     v.samples_of([9, 1], slice(1, None, 2)).array.tolist()
+        [[41, 29], [41, 29]]
+        """
+        asked = many_samples.numbers_of(samples)
+        usual = len(range(asked.start, min(asked.stop, self.info.samples), asked.step))
+        most = max(1, many_samples.BATCH_VALUES // max(usual, 1))
+        return self._samples(self._where(traces), asked, most, where)
+
+    def _samples(
+        self, traces: Sequence[int], samples: range, most: int, where: Optional[str] = None
+    ) -> Samples:
+        """Samples of these traces, of so many at once."""
+        asked = " ".join([many_samples.words_of(samples), *choosing(where)])
+        told = self._windows(traces, lambda first, last: f"samples {first} {last} {asked}", most)
+        kind = Kind(self.sample_type, self.has_floats)
+        return many_samples.table([rows_of(one, b"samples ") for one, _ in told], kind, samples)
 
     def stat(self, trace: int) -> Union[Statistics, FloatStatistics, None]:
         """The samples of a trace; ``None`` where it has none. Of floats the sum is exact, and rounded once.

@@ -9,7 +9,7 @@ import warnings
 from contextlib import closing, contextmanager
 from typing import Iterable, Iterator, List, NamedTuple, Optional, Sequence
 
-from .answers import Answer, accepted, all_accepted, all_chosen, info, unexpected
+from .answers import Answer, accepted, all_accepted, all_chosen, info, refusal_in, unexpected
 from .errors import Closed, FileChanged, LoadRefused, OptionRefused, PathRefused, ProgramEnded, Refused, SaveFailed
 from .history import History, Step
 from .lines import decode, dropping, moving, payload, silent
@@ -55,7 +55,6 @@ class Engine:
         self._closed = False
         self._stamp = self._look()
         _speakable(self.path)
-        self._others: List[Beside] = []
         self._session: Optional[Session] = self._start(self.history)
 
     # ---- sessions
@@ -111,15 +110,13 @@ class Engine:
 
     def interrupt(self) -> None:
         """Ends the program while another thread waits for it. That thread gets an exception."""
-        for session in (self._session, *(one.session for one in self._others)):
-            if session is not None:
-                session.interrupt()
+        session = self._session
+        if session is not None:
+            session.interrupt()
 
     def close(self) -> None:
         """Ends the session for good."""
         self.forget()
-        for one in list(self._others):
-            one.close()
         self._closed = True
 
     @property
@@ -146,29 +143,13 @@ class Engine:
         with self._lock, closing(self.session().stream(some)) as answers:
             yield from answers
 
-    def beside(self, edits: Iterable[Batch]) -> "Beside":
-        """A second session over the file with the accepted edits and further ones, which are told to it alone. To be closed. The bytes of the file stay on
-        disk, so that they do not stand in memory twice."""
-        with self._lock:
-            self._open()
-            session = self._start(self.history, [] if "--on-disk" in self.options else ["--on-disk"])
-            made = Beside(self, session)
-            self._others.append(made)
-        try:
-            for answers in made.stream(edits):
-                if answers.replace(b"ok\n\n", b""):
-                    raise unexpected(decode(answers[:200]))
-        except BaseException:
-            made.close()
-            raise
-        return made
-
     def ask(self, line: bytes) -> List[str]:
         """The lines of the answer to one query."""
         with self._lock:
             answer = decode(self.session().exchange(line + b"\n", 1)[0])
-        if answer.startswith("refused "):
-            raise Refused(answer, decode(line))
+        refused = refusal_in(answer)
+        if refused is not None:
+            raise Refused(refused, decode(line))
         return answer.split("\n")
 
     def edit(self, line: bytes) -> Optional[int]:
@@ -350,21 +331,6 @@ class Engine:
             now = self._look()
             if now._replace(changed=0) == self._stamp._replace(changed=0):
                 self._stamp = now
-
-
-class Beside:
-    """A second session of an engine, for questions that need edits of their own."""
-
-    def __init__(self, engine: Engine, session: Session) -> None:
-        self._engine = engine
-        self.session = session
-        self.stream = session.stream
-
-    def close(self) -> None:
-        """Ends it."""
-        self.session.kill()
-        if self in self._engine._others:
-            self._engine._others.remove(self)
 
 
 def _give(session: Session, history: History) -> None:

@@ -472,11 +472,15 @@ class Headers(Asked):
             parts.append([numbers[at::wide] for at in range(1, wide)])
         return [_join([part[at] for part in parts]) for at in range(len(words))]
 
-    def _windows(self, where: Sequence[int], line: Callable[[int, int], str]) -> Iterator[Tuple[bytes, int]]:
+    def _windows(
+        self, where: Sequence[int], line: Callable[[int, int], str], most: Optional[int] = None
+    ) -> Iterator[Tuple[bytes, int]]:
         """The answers to lines that are asked of a first and a last trace, for all of these traces in order: those of some lines
-        together, and of how many traces they are. Behind a refusal nothing more is asked, and what was asked is read: the session goes on."""
-        pieces = [(encode(line(first, last)), last - first + 1) for first, last in runs(where, WINDOW_TRACES)] if len(where) else []
-        cuts = list(_cut(pieces))
+        together, and of how many traces they are, ``most`` of them or as many as a window has. Behind a refusal nothing more is asked,
+        and what was asked is read: the session goes on."""
+        window = WINDOW_TRACES if most is None else most
+        pieces = [(encode(line(first, last)), last - first + 1) for first, last in runs(where, window)] if len(where) else []
+        cuts = list(_cut(pieces, window))
         refusal: Optional[Exception] = None
 
         def batches() -> Iterator[Batch]:
@@ -538,12 +542,12 @@ def _join(parts: List[Any]) -> Any:
     return [number for part in parts for number in part]
 
 
-def _cut(pieces: Sequence[Tuple[bytes, int]]) -> Iterator[List[Tuple[bytes, int]]]:
+def _cut(pieces: Sequence[Tuple[bytes, int]], most: int) -> Iterator[List[Tuple[bytes, int]]]:
     """Lines with their numbers of traces, cut into what is sent at once."""
     some: List[Tuple[bytes, int]] = []
     traces = 0
     for piece in pieces:
-        if some and (traces + piece[1] > WINDOW_TRACES or len(some) == WINDOW_LINES):
+        if some and (traces + piece[1] > most or len(some) == WINDOW_LINES):
             yield some
             some, traces = [], 0
         some.append(piece)
@@ -562,7 +566,9 @@ def rows_of(told: bytes, head: bytes) -> bytes:
 
 
 def first_refusal(told: bytes, sent: Iterable[bytes]) -> Exception:
+    """The first refusal of these answers, also one that ends an answer behind its first rows."""
     for answer, line in zip(told.split(b"\n\n"), sent):
-        if answer.startswith(b"refused "):
-            return Refused(lines.decode(answer), lines.decode(line))
+        refusal = answers.refusal_in(lines.decode(answer))
+        if refusal is not None:
+            return Refused(refusal, lines.decode(line))
     return answers.unexpected(lines.decode(told))

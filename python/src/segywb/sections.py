@@ -3,7 +3,7 @@
 from __future__ import annotations
 
 import importlib
-from typing import Any, Dict, NamedTuple, Optional, Sequence
+from typing import Any, Dict, List, NamedTuple, Optional, Sequence
 
 from . import lines, many_samples
 from .many_samples import Kind
@@ -104,23 +104,15 @@ class Sections(Reports):
         [[31, 41, -103, 29, 0], [11, 41, -101, 29, 0]]
         """
         reading = self.section_reading(traces)
-        try:
-            reading.more()
-        finally:
-            reading.close()
+        reading.more()
         return reading.section
 
-    def section_reading(
-        self, traces: Sequence[int], coarse: int = 1, glance: int = 0
-    ) -> "SectionReading":
-        """The same in pieces: ``more(values)`` reads so many samples more, ``section`` is what is
-        there, and ``done`` tells whether it is whole.
+    def section_reading(self, traces: Sequence[int], coarse: int = 1) -> "SectionReading":
+        """The same in pieces: ``more(values)`` reads so many samples more, or without a number all
+        that are left, ``section`` is what is there, and ``done`` tells whether it is whole.
 
         Each ``coarse`` sample is read first, and stands for those behind it until they are there:
-        so a section can be looked at while it is read. Where that begins with a second session over
-        the file, so many samples as ``glance`` says are read before it, as far as they are enough
-        for a few of each trace, and ``begins`` tells that it comes next. To be closed where it is
-        not read to its end, and to be left alone behind an edit.
+        so a section can be looked at while it is read. To be left alone behind an edit.
 
         >>> with segywb.open("cube.sgy") as v:
         ...     reading = v.section_reading([9, 1], coarse=5)
@@ -140,11 +132,19 @@ class Sections(Reports):
             )  # the program says why not
         step = self._step(where)
         rising, back = np.unique(where, return_inverse=True)
+        kind = Kind(self.sample_type, self.has_floats)
         reading = many_samples.Reading(
-            self._engine, rising, count, Kind(self.sample_type, self.has_floats), coarse, glance
+            self._windows, rising.tolist(), self._lengths(rising.tolist()), kind, coarse
         )
         shifts, first = self._shifts(where, step)
         return SectionReading(reading, where, back, shifts, first, step)
+
+    def _lengths(self, where: List[int]) -> Any:
+        """How many samples each of these traces has."""
+        info = self.info
+        if info.fixed:
+            return _numpy().full(len(where), info.samples)
+        return many_samples.lengths(self._engine, where)
 
     def _step(self, where: Any) -> float:
         """The interval of these traces in milliseconds; 0 where none is told."""
@@ -184,44 +184,30 @@ class SectionReading:
             first,
             step,
         )
-        self.more = reading.more
-        self.close = reading.close
+
+    def more(self, values: Optional[int] = None) -> None:
+        """Reads so many samples more, or all that are left.
+
+        >>> with segywb.open("cube.sgy") as v:
+        ...     reading = v.section_reading([1, 2], coarse=5)
+        ...     reading.more(2)
+        ...     reading.part
+        0.2
+        """
+        if values is None:
+            self._reading.rest()
+        else:
+            self._reading.more(values)
 
     @property
     def done(self) -> bool:
         """Whether all of it is read.
 
         >>> with segywb.open("cube.sgy") as v:
-        ...     reading = v.section_reading([1])
-        ...     reading.done
-        ...     reading.close()
+        ...     v.section_reading([1]).done
         False
         """
         return self._reading.done
-
-    @property
-    def asked(self) -> bool:
-        """Whether each sample is asked by a line of its own.
-
-        >>> with segywb.open("cube.sgy") as v:
-        ...     reading = v.section_reading([1])
-        ...     reading.asked
-        ...     reading.close()
-        True
-        """
-        return self._reading.way == "lines"
-
-    @property
-    def begins(self) -> bool:
-        """Whether what is read next begins a second session over the file, which takes its time.
-
-        >>> with segywb.open("cube.sgy") as v:
-        ...     reading = v.section_reading([1])
-        ...     reading.begins
-        ...     reading.close()
-        False
-        """
-        return self._reading.begins
 
     @property
     def part(self) -> float:
@@ -231,7 +217,6 @@ class SectionReading:
         ...     reading = v.section_reading([1], coarse=5)
         ...     reading.more(1)
         ...     reading.part
-        ...     reading.close()
         0.2
         """
         return float(self._reading.there.mean()) if len(self._reading.there) else 1.0

@@ -24,7 +24,7 @@ def positions(traces: Any, count: Callable[[], int]) -> Sequence[int]:
     if traces is None:
         return range(1, count() + 1)
     if isinstance(traces, slice):
-        bounds = slice(_below(traces.start), _below(traces.stop), _whole(traces.step))
+        bounds = slice(_below(traces.start), _below(traces.stop), whole(traces.step))
         start, stop, step = bounds.indices(count())
         return range(start + 1, stop + 1, step)
     if isinstance(traces, range):
@@ -56,7 +56,7 @@ def _taken(mask: List[Any], count: int) -> List[int]:
     return [at for at, taken in enumerate(mask, 1) if taken]
 
 
-def _whole(bound: Any) -> Optional[int]:
+def whole(bound: Any) -> Optional[int]:
     """A bound or a step of a slice, which is no truth value."""
     if bound is None:
         return None
@@ -67,7 +67,7 @@ def _whole(bound: Any) -> Optional[int]:
 
 def _below(bound: Any) -> Optional[int]:
     """A bound that counts from 1 as one that counts from 0."""
-    found = _whole(bound)
+    found = whole(bound)
     if found == 0:
         raise ValueError("traces count from 1")
     return found if found is None or found < 0 else found - 1

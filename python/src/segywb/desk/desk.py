@@ -405,7 +405,8 @@ def look(path: str) -> Tuple[int, ...]:
 
 
 def shown(line: str, text: str) -> Dict[str, Any]:
-    """A line and its answer as the page gets them: a list's first rows alone, where there are many."""
+    """A line and its answer as the page gets them: a list's first rows alone, where there are many, and of one that ends in a refusal the refusal."""
+    text = answers.refusal_in(text) or text
     rows = text.split("\n", MOST_ANSWER + 1)
     more = rows[MOST_ANSWER + 1].count("\n") + 1 if len(rows) > MOST_ANSWER + 1 else 0
     kind = "refused" if text.startswith("refused ") else "edit" if answers.accepted(text) else "query"

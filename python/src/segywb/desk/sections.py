@@ -34,9 +34,7 @@ DRAWN = 0.08  # where a look takes more seconds, as on a busy machine, the next 
 COARSE = (
     8  # every so manieth sample is read first, and stands for those behind it until they are there
 )
-PIECE = 1 << 18  # rows of answers that are read at once
-PIECE_ASKED = 1 << 15  # samples that are asked one by one at once
-GLANCE = 1 << 15  # the same for a first look, before a second session begins
+PIECE = 1 << 18  # samples that are read at once
 
 
 Key = Tuple[
@@ -352,7 +350,6 @@ class Sections:
     def __init__(self, seconds: float = float("inf")) -> None:
         """``seconds``: for how long a section is read before what is there is shown."""
         self._seconds = seconds
-        self._glance = GLANCE if seconds < float("inf") else 0
         self._drawn = 0.0
         self._read: List[Tuple[Key, Kept]] = []
         self._readings: Dict[str, Tuple[Key, Volume, SectionReading]] = {}
@@ -438,15 +435,15 @@ class Sections:
         until = time.monotonic() + self._seconds * (later if reading.part else 1)
         try:
             while not reading.done:
-                reading.more(PIECE_ASKED if reading.asked else PIECE)
-                if time.monotonic() >= until or reading.begins:
+                reading.more(PIECE)
+                if time.monotonic() >= until:
                     break  # what is there is shown, and the page asks again
         except BaseException:
-            self._end(side)
+            self._readings.pop(side, None)
             raise
         kept = kept_of(reading.section, reading.part)
         if reading.done:
-            self._end(side)
+            self._readings.pop(side, None)
             self._read = [((side, *key), kept), *self._read[: MOST_KEPT - 1]]
         return kept
 
@@ -457,15 +454,9 @@ class Sections:
         known = self._readings.get(side)
         if known is not None and known[0] == (side, *key) and known[1] is volume:
             return known[2]
-        self._end(side)
-        reading = volume.section_reading(traces, COARSE, self._glance)
+        reading = volume.section_reading(traces, COARSE)
         self._readings[side] = ((side, *key), volume, reading)
         return reading
-
-    def _end(self, side: str) -> None:
-        """Ends a reading."""
-        if side in self._readings:
-            self._readings.pop(side)[2].close()
 
     def under(self, desk: Desk, trace: int, column: int, names: List[str]) -> Under:
         """What stands under the pointer: the headers of a trace, and its sample at a column of the

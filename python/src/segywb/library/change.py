@@ -12,6 +12,7 @@ import tempfile
 import time
 from typing import IO, Any, Callable, List, NamedTuple, Optional, Sequence, Tuple
 
+from ..answers import refusal_in
 from ..lines import silent
 from ..stream import split
 from . import saves
@@ -116,7 +117,8 @@ class Maker:
             return Change(LOAD_REFUSED, [(0, data.decode("utf-8", "replace").strip() or told)], told, begun, new.before, None, 0, 0, None)
         if len(data) == MOST_ANSWERS:
             return Change(FAILED, [], "the answers have more than 64 MB", begun, new.before, None, 0, 0, None)
-        texts = [one.decode("utf-8", "replace") for one in split(data)]
+        found_texts = (one.decode("utf-8", "replace") for one in split(data))
+        texts = [refusal_in(one) or one for one in found_texts]
         answers, numbers = _sorted_out(script, asked, texts, bool(self._stop))
         if texts[-1:] != [f"saved {new.size}"]:
             refused = any(text.startswith("refused ") for _, text in answers)

@@ -11,8 +11,8 @@ MOST_BYTES = 16777216
 MOST_REVERSE = 1 << 20
 # Lines that change nothing of a file, and lines that set a number, with the word that asks for it.
 _ASKING = frozenset(
-    "get getbin table find header extremes fields line lines code stanzas sample count info geometry stat totals range fold grid inlines crosslines "
-    "histogram slice faults problems".split()
+    "get getbin table find header extremes fields line lines code stanzas sample samples count info geometry stat stats totals range fold grid inlines "
+    "crosslines histogram slice survey faults problems".split()
 )
 _SETTING = {b"set": b"get", b"bin": b"getbin"}
 

@@ -7,7 +7,8 @@ use Rattle.bench_rules.specs.Conditions.{meets_by}
 use Rattle.bench_rules.specs.SampleFacts.{amplitudes_at}
 use Rattle.bench_rules.proofs.LackLemmas.{lacks_whatever}
 use Rattle.bench_rules.proofs.LookLemmas.{seen_after}
-use Rattle.chosen_traces.specs.RecordTests.{amplitudes_beside}
+use Rattle.chosen_traces.specs.RecordTests.{amplitudes_beside, amplitudes_if}
+use Rattle.chosen_traces.proofs.BesideLemmas.{same_where_asked}
 use Rattle.chosen_traces.proofs.ChoosingLemmas.{go_on, lacks, still_rise}
 use Rattle.chosen_traces.proofs.RecordLemmas.{amplitudes_there}
 use Rattle.chosen_traces.proofs.choosing.chosen_from.Goals as goal
@@ -21,9 +22,10 @@ returns-in_default-clause-err c = inr (inr (
       let told = sym c.in_default.is ∙ made.told sure in
       let v : Volume = c.args.overlay.now.volume in
       let p : ℕ = c.args.a + c.loop-k.k in
-      let said = subst (λ (u : Volume). None ≡ meets_by u.head (trace_at u p) (amplitudes_beside c.loop-k.overlay.payloads p) c.args.tests.now) i.seen.volume told in
+      let found : Option Amplitudes = amplitudes_if c.ask_values-beside.result c.loop-k.overlay.payloads p in
+      let said = subst (λ (u : Volume). None ≡ meets_by u.head (trace_at u p) found c.args.tests.now) i.seen.volume told in
       lacks v c.args.tests.now c.args.a c.args.b c.loop-k.k (omega (arith, c.loop-k-test.true, c.requires.range))
-      (lacks_whatever v.head (trace_at v p) (amplitudes_beside c.loop-k.overlay.payloads p) (amplitudes_at v.head (trace_at v p)) c.args.tests.now (sym said)),
+      (lacks_whatever v.head (trace_at v p) found (amplitudes_at v.head (trace_at v p)) c.args.tests.now (sym said)),
 ))
 
 pub loop-k-preserved : goal.loop-k-preserved
@@ -37,11 +39,13 @@ loop-k-preserved c =
       chosen = λ fields sure beside.
           let told = sym c.in-Some.is ∙ made.told sure in
           let there : p - 1 < count_of v = omega (arith, c.loop-k-test.true, c.requires.first, c.requires.range, c.requires.last) in
-          let said = subst (λ (u : Volume). Some c.in-Some.is_chosen ≡ meets_by u.head (trace_at u p) (amplitudes_beside c.loop-k.overlay.payloads p) c.args.tests.now) i.seen.volume told in
+          let found : Option Amplitudes = amplitudes_if c.ask_values-beside.result c.loop-k.overlay.payloads p in
+          let said = subst (λ (u : Volume). Some c.in-Some.is_chosen ≡ meets_by u.head (trace_at u p) found c.args.tests.now) i.seen.volume told in
+          let enough = same_where_asked v.head (trace_at v p) c.ask_values-beside.result c.loop-k.overlay.payloads p c.args.tests.now c.ask_values-beside.ensures in
           let same : amplitudes_beside c.loop-k.overlay.payloads p ≡ amplitudes_at v.head (trace_at v p) =
           ap (λ (ps : List PackedRecord). amplitudes_beside ps p) i.seen.payloads ∙ amplitudes_there c.args.overlay.now fields beside p there in
           go_on v c.args.tests.now c.args.a c.args.b c.loop-k.k c.in-Some.is_chosen c.loop-k.traces.items c.keep.new.traces.items (omega (arith, c.loop-k-test.true, c.requires.range))
-          (said ∙ ap (λ (all : Option Amplitudes). meets_by v.head (trace_at v p) all c.args.tests.now) same) kept (i.chosen fields (made.seen.agreed sure) beside);
+          (said ∙ enough ∙ ap (λ (all : Option Amplitudes). meets_by v.head (trace_at v p) all c.args.tests.now) same) kept (i.chosen fields (made.seen.agreed sure) beside);
       rising = still_rise c.args.a c.loop-k.k c.in-Some.is_chosen c.loop-k.traces.items c.keep.new.traces.items c.requires.first kept i.rising;
       seen = seen_after c.args.overlay.now c.loop-k.overlay c.judged.new.overlay c.loop-k.k 1 i.seen made.seen;
     }

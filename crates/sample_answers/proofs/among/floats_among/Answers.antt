@@ -1,10 +1,8 @@
-use Rattle.std.proofs.Common.{◌≡◌, ◌∙◌, ◌++◌, ◌∷◌, [], Bool, ℕ, List, IsTrue, map, take, true, false, ap, arith, sym, subst}
+use Rattle.std.proofs.Common.{◌∙◌, ◌++◌, ◌∷◌, [], ℕ, List, IsTrue, map, take, true, false, ap, arith, sym, subst}
 use Rattle.std.specs.Prelude.{slice_index_or}
 use Rattle.std.proofs.lemmas.List.{map-append, take_all, take_more}
-use Rattle.frame_cut.specs.declared.file_head.Head.{Head}
 use Rattle.frame_cut.specs.Traces.{is_trace}
 use Rattle.frame_cut.specs.Volume.{Volume}
-use Rattle.trace_view.specs.Values.{has_floats}
 use Rattle.bench_rules.specs.declared.trace_statistics.FloatTraceStatistics.{FloatTraceStatistics}
 use Rattle.bench_rules.specs.SampleStatistics.{samples_at, float_trace_statistics}
 use Rattle.bench_rules.proofs.LookLemmas.{seen_after}

@@ -1,4 +1,4 @@
-use Rattle.std.proofs.Common.{◌≡◌, ◌≤◌, ◌^◌, ℤ, List, length, arith, sym, subst}
+use Rattle.std.proofs.Common.{◌≤◌, ◌^◌, ℤ, List, length, arith, sym, subst}
 use Rattle.trace_view.specs.Shown.{bytes_of, head_of}
 use Rattle.bench_rules.proofs.FloatLemmas.{few_samples}
 use Rattle.sample_answers.proofs.of_trace.zeros.Goals as goal

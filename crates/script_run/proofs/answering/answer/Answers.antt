@@ -1,11 +1,10 @@
 use Rattle.std.proofs.Common.{refl}
-use Rattle.script_text.specs.Held.{printed_of}
 use Rattle.script_run.specs.Sessions.{with_empty_line}
 use Rattle.script_run.proofs.answering.answer.Goals as goal
 
 pub returns-clause-line : goal.returns-clause-line
-returns-clause-line g c = λ sure. (
-  with_empty_line (printed_of c.reply_to-reply.result),
-  λ text h. (printed_of c.reply_to-reply.result, c.reply_to-reply.ensures.step sure text h, refl),
-  c.write_reply.ensures,
-)
+returns-clause-line g c = λ sure.
+    let wrote = c.write_reply.ensures in
+    let before = wrote.agreed sure in
+    let told = wrote.written sure (c.reply_to-reply.ensures.there before) in
+    (with_empty_line told.0, λ text h. (told.0, rw (wrote.state, wrote.loaded) (c.reply_to-reply.ensures.step before told.0 told.1 text h), refl), told.2)

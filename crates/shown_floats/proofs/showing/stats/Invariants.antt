@@ -1,4 +1,4 @@
-use Rattle.std.proofs.Common.{◌≡◌, map, take}
+use Rattle.std.proofs.Common.{take}
 use Rattle.shown_floats.specs.Shows.{ShowsTraces}
 use Rattle.shown_floats.proofs.showing.stats.Given as goal
 

@@ -1,7 +1,7 @@
 use Rattle.script_text.specs.Held.{printed_of}
 use Rattle.script_text.proofs.OutLemmas.{by_fault}
 use Rattle.script_run.proofs.TellLemmas.{told_behind, told_at_last}
-use Rattle.script_run.proofs.told.write_reply.Goals as goal
+use Rattle.script_run.proofs.told.write_text.Goals as goal
 
 pub returns-in_err-push : goal.returns-in_err-push
 returns-in_err-push g c =

@@ -27,11 +27,14 @@ whole = Session._write
 def waiting(pipe):
     return struct.unpack("i", fcntl.ioctl(pipe.fileno(), termios.FIONREAD, bytes(4)))[0]
 
+def state(session):
+    with open(f"/proc/{{session.pid}}/stat") as told:
+        return told.read().rpartition(")")[2].split()[0]
+
 def answered(session):
-    told = -1
-    while waiting(session._input) or told != waiting(session._output):
-        told = waiting(session._output)
-        time.sleep(0.05)
+    # It has read all of it, and sleeps until more comes, or has ended. One that waits for a processor is not asleep, however long it waits.
+    while waiting(session._input) or state(session) not in "SZ":
+        time.sleep(0.01)
 
 def write(session, unsent):
     global left
@@ -56,7 +59,7 @@ OUTS = ["FILE itself", "another OUT", "a new OUT"]
 
 def ended(pid):
     """Waits until a program that lost its partner has ended. It is nobody's child here, so it may stay as a dead one."""
-    for _ in range(600):
+    for _ in range(2400):
         try:
             if Path(f"/proc/{pid}/stat").read_text().rpartition(")")[2].split()[0] == "Z":
                 return

@@ -16,13 +16,35 @@ from segywb.stream import Splitter, empty_lines, split
 ECHO = "import itertools\nfor line in sys.stdin:\n    sys.stdout.write('ok\\n\\n' if line != 'count\\n' else 'traces 3\\n\\n'); sys.stdout.flush()\n"
 
 
+# What may go on for ever goes on for as many seconds; what ends because it is noticed ends in a small part of them, also where all processors are busy.
+FOREVER = 600
+
+
 def died(call):
     """Calls, and gives the exception; it must come soon."""
     start = time.monotonic()
     with pytest.raises(segywb.ProgramEnded) as ended:
         call()
-    assert time.monotonic() - start < 30
+    assert time.monotonic() - start < FOREVER / 2
     return ended.value
+
+
+def once_asked(path, does):
+    """Does something in a thread once a program has made this file, which it makes where it is asked."""
+
+    def waits():
+        while not path.exists():
+            time.sleep(0.01)
+        does()
+
+    thread = threading.Thread(target=waits, daemon=True)
+    thread.start()
+    return thread
+
+
+def hangs(path):
+    """A program that makes this file where a header of trace 9 is asked, and does not answer."""
+    return ECHO.replace("    sys.stdout", f"    if line == 'get 9 inline\\n': open({str(path)!r}, 'w').close(); time.sleep({FOREVER})\n    sys.stdout")
 
 
 def test_many_lines_at_once(opened, tmp_path):
@@ -53,8 +75,9 @@ def test_a_line_that_is_too_long(opened):
 def test_killed_between_calls(opened):
     volume = opened("cube")
     volume.set(1, "inline", 7)
-    os.kill(volume._engine.session().pid, signal.SIGKILL)
-    time.sleep(0.1)
+    pid = volume._engine.session().pid
+    os.kill(pid, signal.SIGKILL)
+    os.waitid(os.P_PID, pid, os.WEXITED | os.WNOWAIT)
     ended = died(lambda: len(volume))
     assert ended.status == -signal.SIGKILL and "signal 9" in str(ended)
     assert volume.edits == ["set 1 inline 7"] and volume.get(1, "inline") == 7
@@ -158,11 +181,15 @@ def test_closes_its_answers(fake, opened, monkeypatch):
     assert not os.path.exists(f"/proc/{pid}")
 
 
-def test_a_child_that_keeps_the_pipe(fake, opened):
-    """The program is dead, and a child of it holds the pipe open."""
-    fake("sys.stdin.readline(); print('traces 3\\n', flush=True)\nif os.fork() == 0:\n    time.sleep(20)\nelse:\n    os._exit(7)\n")
+def test_a_child_that_keeps_the_pipe(fake, opened, tmp_path):
+    """The program is dead, and a child of it holds the pipe open, until a file is there or for ever."""
+    held = f"    for _ in range({FOREVER} * 10):\n        if os.path.exists({str(tmp_path / 'go')!r}): os._exit(0)\n        time.sleep(0.1)\n"
+    fake(f"sys.stdin.readline(); print('traces 3\\n', flush=True)\nif os.fork() == 0:\n{held}else:\n    os._exit(7)\n")
     volume = opened("survey")
-    assert died(lambda: len(volume)).status == 7
+    try:
+        assert died(lambda: len(volume)).status == 7
+    finally:
+        (tmp_path / "go").touch()
 
 
 def test_no_program(monkeypatch, example, tmp_path):
@@ -175,25 +202,25 @@ def test_no_program(monkeypatch, example, tmp_path):
         segywb.open(example("survey"))
 
 
-def test_an_interrupt(fake, opened):
+def test_an_interrupt(fake, opened, tmp_path):
     """An interrupt in the middle leaves what was accepted before; the next call starts a new session."""
-    fake(ECHO.replace("    sys.stdout", "    if line == 'get 9 inline\\n': time.sleep(600)\n    sys.stdout"))
+    fake(hangs(tmp_path / "asked"))
     volume = opened("survey")
     volume.set(1, "inline", 7)
-    threading.Timer(0.5, lambda: os.kill(os.getpid(), signal.SIGINT)).start()
+    thread = once_asked(tmp_path / "asked", lambda: os.kill(os.getpid(), signal.SIGINT))
     with pytest.raises(KeyboardInterrupt):
         volume.get(9, "inline")
+    thread.join()
     assert len(volume) == 3 and volume.edits == ["set 1 inline 7"]
 
 
-def test_a_call_that_is_ended_from_another_thread(fake, opened):
-    fake(ECHO.replace("    sys.stdout", "    if line == 'get 9 inline\\n': time.sleep(600)\n    sys.stdout"))
+def test_a_call_that_is_ended_from_another_thread(fake, opened, tmp_path):
+    fake(hangs(tmp_path / "asked"))
     volume = opened("survey")
     volume.set(1, "inline", 7)
-    timer = threading.Timer(0.5, volume.interrupt)
-    timer.start()
+    thread = once_asked(tmp_path / "asked", volume.interrupt)
     assert died(lambda: volume.get(9, "inline")).status == -9
-    timer.join()
+    thread.join()
     assert len(volume) == 3 and volume.edits == ["set 1 inline 7"] and volume.pid > 0
 
 

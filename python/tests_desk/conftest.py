@@ -23,11 +23,8 @@ from selenium import webdriver  # noqa: E402
 from selenium.webdriver.chrome.options import Options  # noqa: E402
 from selenium.webdriver.chrome.service import Service  # noqa: E402
 
-from page import Page  # noqa: E402
+from page import PATIENCE, Page, watched  # noqa: E402
 from segywb import program  # noqa: E402
-
-# So many seconds something may take on a machine that proves beside the tests; one that is idle takes a hundredth.
-PATIENCE = 120.0
 
 WORDS = ("--headless=new", "--no-sandbox", "--disable-gpu", "--disable-dev-shm-usage", "--hide-scrollbars", "--window-size=1280,900")
 
@@ -63,7 +60,7 @@ class Started:
     def end(self):
         if self.process.poll() is None:
             self.process.send_signal(signal.SIGTERM)
-        out, told = self.process.communicate(timeout=120)
+        out, told = self.process.communicate(timeout=PATIENCE)
         return self.process.returncode, told
 
 
@@ -99,6 +96,7 @@ def browser_of():
     options.set_capability("goog:loggingPrefs", {"browser": "ALL"})
     made = webdriver.Chrome(service=Service("/usr/bin/chromedriver"), options=options)
     made.set_script_timeout(PATIENCE)
+    watched(made)
     return made
 
 
@@ -135,6 +133,8 @@ def opened(started, browser, port):
         desk = started(name, *place, *words, before=f"{SAME_KEY}\n{before}", **more)
         browser.execute_cdp_cmd("Storage.clearDataForOrigin", {"origin": f"http://127.0.0.1:{port}", "storageTypes": "local_storage"})
         browser.execute_cdp_cmd("Emulation.setEmulatedMedia", {"features": [{"name": "prefers-color-scheme", "value": "light"}]})
+        if not pages:
+            browser.get("about:blank")  # a test that failed may have left its page
         browser.get_log("browser")
         pages.append(Page(browser, desk))
         pages[-1].open()

@@ -8,6 +8,46 @@ from selenium.webdriver import ActionChains
 from selenium.webdriver.common.by import By
 from selenium.webdriver.common.keys import Keys
 
+# So many seconds something may take on a machine whose processors are all held by others; on one that is idle it takes a hundredth.
+PATIENCE = 300.0
+
+# What a page has begun and not done: requests until their answers are read, timers, and what is drawn with the next picture of the browser. It runs in
+# front of each page of a window.
+UNDER_WAY = """
+const now = { requests: 0, timers: new Set(), frames: new Set() };
+const during = async (promise) => {
+  now.requests += 1;
+  try {
+    return await promise;
+  } finally {
+    now.requests -= 1;
+  }
+};
+const { fetch, setTimeout, clearTimeout, requestAnimationFrame, cancelAnimationFrame } = window;
+window.fetch = (...words) => during(fetch(...words));
+for (const name of ["json", "text", "arrayBuffer"]) {
+  const read = Response.prototype[name];
+  Response.prototype[name] = function whole() { return during(read.call(this)); };
+}
+const counted = (some, begin, end) => [
+  (does, ...words) => {
+    const id = begin((...told) => { some.delete(id); does(...told); }, ...words);
+    some.add(id);
+    return id;
+  },
+  (id) => { some.delete(id); end(id); },
+];
+[window.setTimeout, window.clearTimeout] = counted(now.timers, setTimeout, clearTimeout);
+[window.requestAnimationFrame, window.cancelAnimationFrame] = counted(now.frames, requestAnimationFrame, cancelAnimationFrame);
+window.underWay = () => [now.requests, now.timers.size, now.frames.size];
+"""
+
+
+def watched(browser):
+    """The pages that this window of the browser opens from now on tell what they have under way."""
+    browser.execute_cdp_cmd("Page.addScriptToEvaluateOnNewDocument", {"source": f"(() => {{ {UNDER_WAY} }})()"})
+    browser.get("about:blank")
+
 
 class Page:
     """A page in a browser."""
@@ -18,8 +58,15 @@ class Page:
         self.may_complain = False
 
     def open(self, url=None):
+        self.rest()
         self.browser.get(url or self.desk.url)
         self.wait(lambda: self.data("whole"))
+
+    def sized(self, wide, tall):
+        """Gives the window this size, and waits until the page has been told so, which it is before the next picture is drawn."""
+        self.browser.execute_cdp_cmd("Emulation.setDeviceMetricsOverride", {"width": wide, "height": tall, "deviceScaleFactor": 1, "mobile": False})
+        self.browser.execute_async_script("const [done] = arguments; requestAnimationFrame(() => requestAnimationFrame(() => done()))")
+        self.rest()
 
     # ---- looking
 
@@ -53,16 +100,29 @@ class Page:
         """The header table as texts."""
         return self.js("return [...document.querySelectorAll('#table-room tbody tr')].map((row) => [...row.children].map((one) => one.firstChild.textContent))")
 
-    def wait(self, question, seconds=120.0):
+    def under_way(self):
+        """How many requests, timers and drawings the page has begun and not done."""
+        return self.js("return window.underWay()")
+
+    def rest(self):
+        """Waits until nothing is under way: then what the page shows stays as it is, until something is done to it."""
+        self.wait(lambda: True)
+
+    def wait(self, question, seconds=PATIENCE, rest=True):
+        """Asks until the answer is true, and gives it. It is asked of a page at rest, so that all that is read behind it belongs together; without
+        ``rest`` also of what the page shows in between."""
         until = time.monotonic() + seconds
         while True:
-            try:
-                found = question()
-            except (StaleElementReferenceException, ElementNotInteractableException):
-                found = None
+            busy = self.under_way() if rest else []
+            found = None
+            if not any(busy):
+                try:
+                    found = question()
+                except (StaleElementReferenceException, ElementNotInteractableException):
+                    pass
             if found:
                 return found
-            assert time.monotonic() < until, self.js("return document.body.innerText")
+            assert time.monotonic() < until, f"under way: {busy}\n" + self.js("return document.body.innerText")
             time.sleep(0.05)
 
     # ---- doing
@@ -76,7 +136,7 @@ class Page:
 
     def run(self, line):
         """Types a line and gives its answer. Where it is accepted, everything is brought up to date first."""
-        before = self.version()
+        before = self.wait(self.version)
         field = self.find("line")
         field.clear()
         field.send_keys(line, Keys.ENTER)
@@ -87,7 +147,7 @@ class Page:
 
     def step_of_line(self):
         """Runs what stands in the command line."""
-        before = self.version()
+        before = self.wait(self.version)
         self.find("line").send_keys(Keys.ENTER)
         self.shown(before + 1)
 
@@ -112,9 +172,18 @@ class Page:
 
         self.wait(clicked)
 
+    def double_click(self, selector):
+        """Two clicks on an element that are one double click, however long the driver waits for a processor between them."""
+        self.rest()
+        x, y = self.js("const one = document.querySelector(arguments[0]); one.scrollIntoView({block: 'nearest'});"
+                       "const {left, top, width, height} = one.getBoundingClientRect(); return [left + width / 2, top + height / 2]", selector)
+        for count in (1, 2):
+            for kind in ("mousePressed", "mouseReleased"):
+                self.browser.execute_cdp_cmd("Input.dispatchMouseEvent", {"type": kind, "x": x, "y": y, "button": "left", "clickCount": count})
+
     def step(self, id):
         """Clicks on something that makes a new version."""
-        before = self.version()
+        before = self.wait(self.version)
         self.click(id)
         self.shown(before + 1)
 
@@ -127,6 +196,7 @@ class Page:
 
     def drag(self, cells, room=(12, 8)):
         """Draws a rectangle on the map from one cell to another, each a row and a column; so many pixels around their middles."""
+        self.rest()
         place = "const gd = document.getElementById('plot-now'); const {xaxis: x, yaxis: y} = gd._fullLayout; const room = gd.getBoundingClientRect();"
         at = [self.js(f"{place} return [room.left + x._offset + x.d2p(arguments[1]), room.top + y._offset + y.d2p(arguments[0])]", *cell) for cell in cells]
         (x0, y0), (x1, y1) = [(round(x), round(y)) for x, y in at]
@@ -141,6 +211,7 @@ class Page:
 
     def brush(self, start, end, axis="yaxis"):
         """Draws a rectangle on the graph from one place to another, each a number to the right and one upwards on this axis."""
+        self.rest()
         self.js("document.getElementById('graph').scrollIntoView({block: 'center'})")
         place = f"const gd = document.getElementById('plot-graph'); const {{xaxis: x, {axis}: y}} = gd._fullLayout; const room = gd.getBoundingClientRect();"
         at = [self.js(f"{place} return [room.left + x._offset + x.d2p(arguments[0]), room.top + y._offset + y.d2p(arguments[1])]", *one) for one in (start, end)]

@@ -5,7 +5,6 @@ import math
 
 import numpy as np
 import pytest
-from conftest import wait_for
 from selenium.webdriver.common.keys import Keys
 from test_guard import asked, ready
 from test_maps import LAPTOP, loaded, survey, written
@@ -176,7 +175,7 @@ def test_scales_of_colours(opened):
     scale = "return JSON.stringify(document.getElementById('plot-now').data[0].colorscale)"
     first = page.js(scale)
     select(page, "map-scale", "Cividis")
-    wait_for(lambda: page.js(scale) != first)
+    page.wait(lambda: page.js(scale) != first)
     assert page.js(scale) == '"Cividis"' and "for colour-blind eyes" in page.find("map-scale").text
     page.map_tab("field")
     assert page.js(scale) == '"Cividis"'

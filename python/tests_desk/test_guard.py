@@ -8,12 +8,11 @@ import socket
 import struct
 import subprocess
 import sys
-import time
 from pathlib import Path
 
 import files
 import pytest
-from conftest import SOURCES, Started, run, wait_for
+from conftest import PATIENCE, SOURCES, Started, run, wait_for
 from selenium.webdriver.common.keys import Keys
 
 HOSTILE = [
@@ -23,7 +22,7 @@ HOSTILE = [
 
 def asked(desk, path=None, method="GET", body=None, **headers):
     """Asks the server by hand; a header that is None is left out."""
-    link = http.client.HTTPConnection("127.0.0.1", desk.port, timeout=120)
+    link = http.client.HTTPConnection("127.0.0.1", desk.port, timeout=PATIENCE)
     link.putrequest(method, f"/{desk.token}/ask/state" if path is None else path, skip_host=True, skip_accept_encoding=True)
     sent = {"Host": f"127.0.0.1:{desk.port}", **{name.replace("_", "-"): value for name, value in headers.items()}}
     data = json.dumps(body).encode() if body is not None else b""
@@ -71,7 +70,7 @@ def test_the_host_and_the_origin(started):
 def raw(desk, *lines, body=b""):
     """The status of a request that is written line by line."""
     sent = "\r\n".join([*lines, "Connection: close", "", ""]).encode() + body
-    with socket.create_connection(("127.0.0.1", desk.port), timeout=120) as link:
+    with socket.create_connection(("127.0.0.1", desk.port), timeout=PATIENCE) as link:
         link.sendall(sent)
         told = b"".join(iter(lambda: link.recv(65536), b""))
     return int(told.split()[1])
@@ -190,12 +189,12 @@ def test_a_page_of_another_site(started, browser, tmp_path):
     desk = ready(started("cube"))
     page = tmp_path / "evil.html"
     page.write_text("<!doctype html><title>waiting</title><script>"
-                    f"fetch('{desk.url}ask/state').then((r) => r.text()).then(() => document.title = 'read', () => document.title = 'nothing');"
-                    f"fetch('{desk.url}do/run', {{method: 'POST', mode: 'no-cors', body: '{{\"line\": \"delete 1\"}}'}});"
+                    f"const edit = fetch('{desk.url}do/run', {{method: 'POST', mode: 'no-cors', body: '{{\"line\": \"delete 1\"}}'}});"
+                    f"const read = fetch('{desk.url}ask/state').then((r) => r.text());"
+                    "Promise.allSettled([read, edit]).then(([{status}]) => { document.title = status === 'fulfilled' ? 'read' : 'nothing'; });"
                     "</script>")
     browser.get(page.as_uri())
     assert wait_for(lambda: browser.title != "waiting") and browser.title == "nothing"
-    time.sleep(0.3)
     assert json.loads(asked(desk)[1])["edits"] == 0
     browser.get_log("browser")
 
@@ -205,7 +204,7 @@ def test_a_page_of_another_site(started, browser, tmp_path):
 
 def desk_of(*words):
     command = [sys.executable, "-m", "segywb.desk", *words]
-    return subprocess.run(command, env={"PATH": "/usr/bin:/bin", "PYTHONPATH": str(SOURCES), **environment()}, capture_output=True, text=True, timeout=60, check=False)
+    return subprocess.run(command, env={"PATH": "/usr/bin:/bin", "PYTHONPATH": str(SOURCES), **environment()}, capture_output=True, text=True, timeout=PATIENCE, check=False)
 
 
 def environment():

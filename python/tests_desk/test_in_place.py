@@ -6,7 +6,7 @@ import struct
 
 import files
 import pytest
-from conftest import TOP, wait_for
+from conftest import PATIENCE, TOP, wait_for
 from page import Page
 from selenium.webdriver.common.keys import Keys
 from test_guard import asked
@@ -191,7 +191,7 @@ def test_a_journal_that_is_rotten(started, browser, example):
         assert "rotten; nothing was written" in page.text("recover-said")
     assert path.read_bytes() == before and journal.exists()
     page.desk.process.send_signal(signal.SIGTERM)
-    assert page.desk.process.wait(timeout=120) == 3
+    assert page.desk.process.wait(timeout=PATIENCE) == 3
     browser.get("about:blank")
     browser.get_log("browser")
 

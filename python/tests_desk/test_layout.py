@@ -2,7 +2,6 @@
 
 import files
 import pytest
-from conftest import wait_for
 from selenium.webdriver import ActionChains
 from selenium.webdriver.common.by import By
 from selenium.webdriver.common.keys import Keys
@@ -114,8 +113,8 @@ def test_a_panel_as_large_as_the_window(laptop, name):
     plot = {"maps": "plot-now", "graph": "plot-graph"}.get(name)
     if plot:
         wide = "const one = document.getElementById(arguments[0]); return one._fullLayout ? [one._fullLayout.width, one._fullLayout.height] : [0, 0]"
-        wait_for(lambda: laptop.js(wide, plot)[0] > 1150)
-        assert laptop.js(wide, plot)[0] > 1150 and laptop.js(wide, plot)[1] > 380 and room(laptop, plot)[3] <= 720
+        laptop.wait(lambda: laptop.js(wide, plot)[0] > 1150)
+        assert laptop.js(wide, plot)[1] > 380 and room(laptop, plot)[3] <= 720
     assert no_wider(laptop)
     laptop.one("body").send_keys(Keys.ESCAPE)
     laptop.wait(lambda: room(laptop, name)[2] - room(laptop, name)[0] == before[2] - before[0])

@@ -3,7 +3,6 @@
 import files
 import numpy as np
 import pytest
-from conftest import wait_for
 from selenium.webdriver.common.keys import Keys
 
 from segywb.desk import bundles, maps, marks, places, views
@@ -260,8 +259,8 @@ def test_the_switch_takes_the_marks_away(opened, tmp_path):
     page.run("set 7 crossline 99")
     assert page.marks() == 2 and "2 cells changed by the last step, outlined" in page.text("caption")
     page.click("marks")
-    wait_for(lambda: page.marks() == 0)
-    assert page.marks() == 0 and "2 cells changed by the last step." in page.text("caption")
+    page.wait(lambda: page.marks() == 0)
+    assert "2 cells changed by the last step." in page.text("caption")
     page.run("set 8 crossline 99")
     assert page.marks() == 0
     page.click("marks")

@@ -7,7 +7,6 @@ import struct
 import files
 import pytest
 from conftest import run
-from selenium.webdriver import ActionChains
 from selenium.webdriver.common.by import By
 from selenium.webdriver.common.keys import Keys
 
@@ -201,7 +200,7 @@ def test_words(opened):
 
 def test_the_table(opened):
     page = opened("wrong_line")
-    ActionChains(page.browser).double_click(page.one('td[data-at="4 0"]')).perform()
+    page.double_click('td[data-at="4 0"]')
     field = page.one("td input")
     field.clear()
     field.send_keys("102", Keys.ENTER)
@@ -438,7 +437,7 @@ def test_width_and_pictures(opened, scheme, tmp_path):
     folder = os.environ.get("SEGYWB_PICTURES") or str(tmp_path)
     page = opened(survey(tmp_path / "survey.sgy"))
     page.browser.execute_cdp_cmd("Emulation.setEmulatedMedia", {"features": [{"name": "prefers-color-scheme", "value": scheme}]})
-    page.browser.execute_cdp_cmd("Emulation.setDeviceMetricsOverride", {"width": 1280, "height": 960, "deviceScaleFactor": 1, "mobile": False})
+    page.sized(1280, 960)
     back = page.js("return getComputedStyle(document.body).color")
     assert (back == "rgb(27, 31, 36)") == (scheme == "light")
 

@@ -9,7 +9,7 @@ import time
 
 import files
 import pytest
-from conftest import SOURCES, run, wait_for
+from conftest import PATIENCE, SOURCES, run, wait_for
 from page import Page
 from test_guard import asked, desk_of
 
@@ -91,8 +91,8 @@ def test_readings_are_the_smallest(tmp_path):
     assert refusals.readings(str(tmp_path), options) == []
 
 
-def refused_page(started, browser, path, *words):
-    desk = started(path, *words, show=True, env={"BROWSER": "true"})
+def refused_page(started, browser, path, *words, **more):
+    desk = started(path, *words, show=True, env={"BROWSER": "true"}, **more)
     page = Page(browser, desk)
     browser.get(desk.url)
     page.wait(lambda: page.find("banner").is_displayed())
@@ -129,11 +129,12 @@ def test_the_page_offers_the_reading(started, browser, tmp_path, form):
 
 
 def test_the_page_without_a_reading(started, browser, tmp_path):
-    page = refused_page(started, browser, short(tmp_path / "short.sgy"))
+    """The desk ends once a page has told it, and the page still tells it then."""
+    page = refused_page(started, browser, short(tmp_path / "short.sgy"), before=f"import segywb.desk.cli as cli\ncli.GOODBYE_SECONDS = {PATIENCE}")
     assert "load refused L14 truncated trace 1 (" in page.text("banner") and "No reading" in page.text("banner") and not page.all("#banner button")
-    assert page.desk.process.wait(timeout=120) == 3
+    assert page.desk.process.wait(timeout=PATIENCE) == 3
     page.wait(lambda: "The desk has ended" in page.text("banner"))
-    assert "load refused L14 truncated trace 1 (" in page.text("banner")
+    assert "load refused L14 truncated trace 1 (" in page.text("banner") and "No reading" in page.text("banner") and page.find("look").is_displayed()
     browser.get("about:blank")
     browser.get_log("browser")
 
@@ -146,27 +147,28 @@ def test_the_refusal_is_said_before_the_address(tmp_path):
         desk = subprocess.Popen(command, env={**os.environ, "PYTHONPATH": str(SOURCES), "BROWSER": "true"}, stdout=both, stderr=subprocess.STDOUT)
     wait_for(lambda: said.read_text().count("\n") >= 3 + TAIL)
     desk.send_signal(signal.SIGINT)
-    assert desk.wait(timeout=120) == 3
+    assert desk.wait(timeout=PATIENCE) == 3
     lines = said.read_text().splitlines()
     assert "refused L14" in lines[0] and "with --fixed" in lines[1] and lines[2 + len(behind(2))].startswith("http://127.0.0.1:")
 
 
 def test_the_file_is_open_before_the_browser_is(tmp_path, example):
     """A browser that notes when it was opened, and a program that takes its time."""
-    slow, seen = tmp_path / "slow", tmp_path / "seen"
-    slow.write_text(f"#!/bin/sh\nwhile [ ! -e {tmp_path}/go ]; do sleep 0.1; done\nexec {program.find()} \"$@\"\n")
+    slow, begun, seen = tmp_path / "slow", tmp_path / "begun", tmp_path / "seen"
+    slow.write_text(f"#!/bin/sh\ntouch {begun}\nwhile [ ! -e {tmp_path}/go ]; do sleep 0.1; done\nexec {program.find()} \"$@\"\n")
     shown = tmp_path / "shown"
     shown.write_text(f"#!/bin/sh\necho \"$1\" > {seen}\n")
     for one in (slow, shown):
         one.chmod(0o755)
     env = {**os.environ, "PYTHONPATH": str(SOURCES), "BROWSER": f"{shown} %s", "SEGYWB": str(slow)}
     desk = subprocess.Popen([sys.executable, "-m", "segywb.desk", str(example("cube"))], env=env, stdout=subprocess.PIPE, stderr=subprocess.PIPE, text=True)
-    time.sleep(1.5)
+    assert wait_for(begun.exists)
+    time.sleep(1.0)  # a browser that is opened without waiting for the program is opened by then
     assert not seen.exists() and desk.poll() is None
     (tmp_path / "go").touch()
     assert desk.stdout.readline().startswith("http://127.0.0.1:") and wait_for(seen.exists)
     desk.send_signal(signal.SIGINT)
-    out, told = desk.communicate(timeout=120)
+    out, told = desk.communicate(timeout=PATIENCE)
     assert desk.returncode == 0 and told == ""
 
 

@@ -11,7 +11,7 @@ from types import SimpleNamespace
 
 import pytest
 from conftest import TOP, run, wait_for
-from page import Page
+from page import Page, watched
 from selenium.webdriver.common.by import By
 from segywb.desk import saving
 from segywb.desk.desk import Desk
@@ -130,6 +130,7 @@ def test_two_tabs(opened):
     browser = page.browser
     first = browser.current_window_handle
     browser.switch_to.new_window("tab")
+    watched(browser)
     try:
         other = Page(browser, page.desk)
         other.open()

@@ -183,8 +183,8 @@ class Contents(Headers):
         ...     array.tolist(), traces.tolist(), samples.tolist()
         ([[21, 41, -102], [22, 42, -102], [23, 43, -102], [24, 44, -102]], [5, 6, 7, 8], [0, 1, 2])
         >>> with segywb.open("cube.sgy") as v:
-        ...     v.samples_of([9, 1], slice(1, None, 2)).array.tolist()
-        [[41, 29], [41, 29]]
+        ...     v.samples_of([9, 1], slice(0, 2)).array.tolist()
+        [[31, 41], [11, 41]]
         """
         asked = many_samples.numbers_of(samples)
         usual = len(range(asked.start, min(asked.stop, self.info.samples), asked.step))

@@ -5,6 +5,7 @@ from __future__ import annotations
 import asyncio
 import importlib.util
 import json
+import threading
 from concurrent.futures import ThreadPoolExecutor
 from pathlib import Path
 from typing import Any, Callable, Dict, List, Optional, Tuple, TypeVar, Union
@@ -81,7 +82,8 @@ class Server:
     def __init__(self, desk: Desk, token: str) -> None:
         self.desk = desk
         self.guard = Guard(token)
-        self.status: Answer = {"phase": "loading", "what": "the file", "done": 0, "of": 0}
+        self._status: Answer = {"phase": "loading", "what": "the file", "done": 0, "of": 0, "turn": 1}
+        self._turning = threading.Lock()
         self.broken: Optional[Exception] = None
         self._readings: List[Reading] = []
         self._loading: Optional[asyncio.Task[None]] = None
@@ -95,6 +97,19 @@ class Server:
         self._runner: Optional[web.AppRunner] = None
         self._stopped = False
         self._heard = False
+
+    @property
+    def status(self) -> Answer:
+        """The state of affairs. Its ``turn`` rises whenever it becomes another: it reaches a page by events and by answers, which may overtake
+        one another, and the page leaves alone what is older than what it knows."""
+        return self._status
+
+    @status.setter
+    def status(self, told: Answer) -> None:
+        with self._turning:  # the desk's thread tells how far it has read
+            turn = self._status["turn"]
+            if {**told, "turn": turn} != self._status:
+                self._status = {**told, "turn": turn + 1}
 
     # ---- routes
 
@@ -271,8 +286,10 @@ class Server:
         """Starts a program that has ended anew, with the accepted edits."""
         if self.status["phase"] == "ended":
             self.status = {"phase": "ready", "version": self.desk.version}
-            return await self._answered(self.desk.restart)
-        return web.json_response(self.status)
+            made = await self._answered(self.desk.restart)
+            if made.status != 200:
+                return made
+        return web.json_response(self.told())
 
     # ---- what happens meanwhile
 
@@ -293,16 +310,16 @@ class Server:
         """A line for each change, until the page goes away."""
         response = web.StreamResponse(headers={**HEADERS, "Content-Type": "text/event-stream"})
         await response.prepare(request)
-        last, since = "", 0.0
+        clock = asyncio.get_running_loop().time
+        last, at = "", 0.0
         try:
             while not self._stopped:
                 now = json.dumps(self.told())
-                if now != last or since > ALIVE_SECONDS:
+                if now != last or clock() - at > ALIVE_SECONDS:
                     await response.write(f"data: {now}\n\n".encode())
-                    last, since = now, 0.0
+                    last, at = now, clock()
                     self._heard = self._heard or self.status["phase"] == "refused"
                 await asyncio.sleep(LOOK_SECONDS)
-                since += LOOK_SECONDS
         except (ConnectionError, asyncio.CancelledError):
             pass
         return response

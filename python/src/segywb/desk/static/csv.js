@@ -13,10 +13,12 @@ let text = null;
 let name = "";
 let columns = [];
 let looked = null;
+let turn = 0; // counts the files that were chosen
 
 const role = (column) => (KEYS.includes(column) ? "key" : VALUES.includes(column) ? "value" : "");
 
 export function open() {
+  turn += 1;
   text = null;
   columns = [];
   looked = null;
@@ -33,17 +35,21 @@ export function open() {
 async function chosen(event) {
   const [file] = event.target.files;
   if (!file) return;
+  const mine = ++turn;
   stale();
   fill(at("csv-columns"));
   at("csv-look").disabled = true;
   ({ name } = file);
   if (file.size > MOST_BYTES) return said(`This has ${many(file.size, "byte")}, more than the desk takes: import_csv of Python takes it.`);
+  const bytes = await file.arrayBuffer();
+  if (mine !== turn) return undefined;
   try {
-    text = new TextDecoder("utf-8", { fatal: true }).decode(await file.arrayBuffer());
+    text = new TextDecoder("utf-8", { fatal: true }).decode(bytes);
   } catch {
     return said("This is not UTF-8.");
   }
   const got = await tell("csv", { text: text.slice(0, 65536) }).catch((error) => ({ error: error.message }));
+  if (mine !== turn) return undefined; // another file was chosen meanwhile
   if (got.error) return said(got.error);
   columns = got.columns.map((column) => ({ column, role: role(column.toLowerCase()), field: column.toLowerCase() }));
   return drawColumns();

@@ -2,9 +2,9 @@
 
 import { ask } from "./api.js";
 import { at, fill, make, many, tabs } from "./dom.js";
-import { offer } from "./offers.js";
+import { choose as chosen } from "./offers.js";
 import * as plots from "./plots.js";
-import { part, store, whenSpotted } from "./store.js";
+import { latest, part, store, whenSpotted } from "./store.js";
 import { goTo } from "./table.js";
 
 const room = at("plot-graph");
@@ -14,13 +14,14 @@ let names = ["inline", "crossline"];
 let span = null;
 let view = null;
 let bound = false;
+let drawing = 0; // counts what is drawn
 let heights = {}; // the least and the greatest number that are shown of a field, where it was zoomed into
 
 export const shown = () => !at("graph").dataset.folded;
 
-function query() {
+function query(some = names) {
   if (mode === "against-field") return { pair: 1, x: at("graph-x").value.trim(), y: at("graph-y").value.trim(), ...ends() };
-  return { names: names.join(" "), first: span ? span[0] : 1, last: span ? span[1] : 0, wide: Math.max(room.clientWidth - 100, 60) };
+  return { names: some.join(" "), first: span ? span[0] : 1, last: span ? span[1] : 0, wide: Math.max(room.clientWidth - 100, 60) };
 }
 
 // The part of a graph of field against field that is zoomed into.
@@ -28,12 +29,9 @@ function ends() {
   return span ? { low: `${span[0]} ${span[2]}`, high: `${span[1]} ${span[3]}` } : {};
 }
 
-export async function show() {
-  if (!shown()) return;
-  const asked = JSON.stringify(query());
+async function took(got) {
   try {
-    const got = await ask("graph", query());
-    if (asked !== JSON.stringify(query())) return;
+    if (got instanceof Error) throw got;
     view = got;
     await draw();
     at("graph-said").textContent = "";
@@ -42,12 +40,21 @@ export async function show() {
   }
 }
 
+const drawn = latest(() => ask("graph", query()).catch((error) => error), took);
+
+export async function show() {
+  if (shown()) await drawn();
+}
+
 async function draw() {
+  const mine = ++drawing;
   const points = at("graph-style").value === "points";
   const drag = at("graph-drag").value;
   const picture = view.fields ? plots.series(view, points, drag, heights) : plots.cloud(view, drag);
   await plots.draw(room, picture);
+  if (mine !== drawing) return; // something else is drawn since, or was chosen
   if (store.spot && view.fields) await plots.band(room, store.spot);
+  if (mine !== drawing) return;
   fill(at("graph-caption"), caption());
   document.body.dataset.graphVersion = String(view.version);
   document.body.dataset.graphKind = mode;
@@ -82,22 +89,22 @@ async function add(event) {
   event.preventDefault();
   const some = at("graph-field").value.trim().split(/\s+/).filter((one) => one && !names.includes(one));
   if (!some.length) return;
-  const before = names;
-  names = [...names, ...some];
+  const typed = at("graph-field").value;
   try {
-    view = await ask("graph", query());
-    at("graph-field").value = "";
-    at("graph-said").textContent = "";
-    chips();
-    await draw();
+    await ask("graph", query([...names, ...some])); // the fields stay what they are until these are known
   } catch (error) {
-    names = before;
     at("graph-said").textContent = error.message;
+    return;
   }
+  if (at("graph-field").value === typed) at("graph-field").value = "";
+  names = [...names, ...some.filter((one) => !names.includes(one))];
+  chips();
+  await show();
 }
 
 function choose(key) {
   mode = key;
+  drawing += 1; // what is being drawn is of the other kind
   span = null;
   heights = {};
   at("graph-add").hidden = mode !== "against-trace";
@@ -140,8 +147,7 @@ function pairPart(x, y) {
 async function select(words) {
   const [field] = words.names.split(" ").slice(-1);
   try {
-    const got = await ask("choose", words);
-    offer({ ask: "choose", query: words, field, value: Math.ceil(Number(words.low.split(" ").slice(-1)[0])), shape: "rectangle", room: "graph" }, got);
+    await chosen({ ask: "choose", query: words, field, value: Math.ceil(Number(words.low.split(" ").slice(-1)[0])), shape: "rectangle", room: "graph" });
   } catch (error) {
     at("graph-said").textContent = error.message;
   }

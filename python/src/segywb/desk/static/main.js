@@ -11,23 +11,27 @@ import * as offers from "./offers.js";
 import * as save from "./save.js";
 import * as section from "./section.js";
 import * as side from "./side.js";
-import { done, part, refresh, store } from "./store.js";
+import { behind, done, part, refresh, store, unready } from "./store.js";
 import * as table from "./table.js";
 
 // ---- what the server tells of itself
 
 let refusal = [];
 let told = "";
+let turn = 0; // of the latest that the server told of itself
 let lookIsOpen = false;
 
-// A refused file: what the program says of it, and a button for each reading that takes it.
+// A refused file: what the program says of it, and a button for each reading that takes it. All but the buttons stays where the desk has ended since, as
+// it does where there are none.
 function refused(status) {
   const offer = ({ words, traces, samples, tail }) => make("button", { class: "reading", on: { click: () => read(words) } },
     `Read it ${words}`, make("span", { class: "hint" }, ` ${many(traces, "trace")} of ${many(samples, "sample")}${tail ? `, and ${many(tail, "byte")} behind the last` : ""}`));
-  refusal = [make("strong", {}, "The file is refused: "), make("code", {}, status.why)];
-  return [...refusal, make("p", {}, ...status.readings.map(offer), status.readings.length ? null : "No reading of the desk takes it."),
-    status.look && status.look.length ? make("details", { id: "look", open: lookIsOpen, on: { toggle: (event) => { lookIsOpen = event.target.open; } } }, make("summary", {}, "What its head says, and its length"),
-      make("table", {}, make("tbody", {}, ...status.look.map(([name, value]) => make("tr", {}, make("th", { scope: "row" }, name), make("td", {}, value)))))) : null];
+  const said = [make("strong", {}, "The file is refused: "), make("code", {}, status.why)];
+  const none = status.readings.length ? null : make("p", {}, "No reading of the desk takes it.");
+  const looked = status.look && status.look.length ? make("details", { id: "look", open: lookIsOpen, on: { toggle: (event) => { lookIsOpen = event.target.open; } } }, make("summary", {}, "What its head says, and its length"),
+    make("table", {}, make("tbody", {}, ...status.look.map(([name, value]) => make("tr", {}, make("th", { scope: "row" }, name), make("td", {}, value)))))) : null;
+  refusal = [...said, none, looked];
+  return [...said, none || make("p", {}, ...status.readings.map(offer)), looked];
 }
 
 // A file of which a repair was cut off, and the button that undoes it.
@@ -59,9 +63,14 @@ const texts = {
   gone: () => [...refusal, make("p", {}, make("strong", {}, "The desk has ended, or does not answer. "), "Start it again with the command segywb-desk.")],
 };
 
+// What the server tells of itself: by an event, or in an answer. One that was overtaken is no news, and what is shown already is not made anew: a button
+// may be pressed just then. That the server does not answer has no turn.
 function phase(status) {
+  if (status.turn < turn || (status.turn === turn && status.phase !== "ready" && status.phase === document.body.dataset.phase)) return;
+  turn = status.turn || turn;
   const banner = at("banner");
-  store.ready = status.phase === "ready";
+  if (status.phase === "ready") store.ready = true;
+  else unready();
   at("loading").hidden = status.phase !== "loading";
   if (status.phase === "loading") loading(status);
   if (texts[status.phase]) {
@@ -91,7 +100,7 @@ function ready(status) {
   const first = at("main").hidden;
   at("main").hidden = false;
   if (first && status.grid === false) layout.first("section");
-  if (first || status.version > store.version) {
+  if (first || behind() || status.version > store.version) {
     store.version = Math.max(store.version, status.version);
     refresh();
   }
@@ -100,7 +109,7 @@ function ready(status) {
 async function restart() {
   at("restart").disabled = true;
   const answer = await tell("restart", {}, "restart").catch(() => null);
-  if (answer) phase({ phase: "ready", version: answer.version });
+  if (answer) phase(answer);
 }
 
 // ---- the bar

@@ -3,9 +3,9 @@
 import { ask } from "./api.js";
 import { at, fill, make, many, tabs } from "./dom.js";
 import * as plots from "./plots.js";
-import { part, store, whenSpotted } from "./store.js";
+import { latest, part, store, whenSpotted } from "./store.js";
 import { goTo } from "./table.js";
-import { offer } from "./offers.js";
+import { choose as chosen } from "./offers.js";
 
 const now = at("plot-now");
 const was = at("plot-was");
@@ -14,6 +14,7 @@ let kind = "fold";
 let view = null;
 let place = null;
 let bound = false;
+let drawing = 0; // counts what is drawn: behind each step of it something else may have been chosen
 
 const KINDS = [["fold", "Fold map"], ["field", "Field map"], ["positions", "Positions"], ["slice", "Slice"], ["histogram", "Histogram"]];
 const isMap = () => kind === "fold" || kind === "slice" || (kind === "field" && Boolean(view) && view.kind === "number");
@@ -27,12 +28,9 @@ function query() {
   return { ...room, compare: store.compare ? 1 : 0, sample: at("sample-number").value || 0 };
 }
 
-export async function show() {
-  const asked = kind;
-  now.classList.add("busy");
+async function took(got) {
   try {
-    const got = await ask(kind, query());
-    if (asked !== kind) return;
+    if (got instanceof Error) throw got;
     view = got;
     at("box").hidden = !isMap();
     await drawAll(got);
@@ -44,9 +42,16 @@ export async function show() {
   }
 }
 
+export const show = latest(() => {
+  now.classList.add("busy");
+  return ask(kind, query()).catch((error) => error);
+}, took);
+
 async function drawAll(got) {
+  const mine = ++drawing;
   if (got.refused || got.kind === "none") {
     await plots.draw(now, { data: [], layout: { paper_bgcolor: "rgba(0,0,0,0)", plot_bgcolor: "rgba(0,0,0,0)", xaxis: { visible: false }, yaxis: { visible: false } } });
+    if (mine !== drawing) return;
     fill(at("caption"), got.refused ? `The program answers: ${got.refused}` : `No grid can be fitted: ${got.why}.`);
     if (got.refused) return;
     document.body.dataset.mapVersion = String(got.version);
@@ -54,9 +59,12 @@ async function drawAll(got) {
     return;
   }
   await plots.draw(now, picture(got, got.now), beside());
+  if (mine !== drawing) return;
   if (beside() && got.was) await plots.draw(was, picture(got, got.was), true);
+  if (mine !== drawing) return;
   fill(at("caption"), caption(got));
   if (store.spot) await spotted();
+  if (mine !== drawing) return;
   document.body.dataset.mapVersion = String(got.version);
   document.body.dataset.mapKind = kind;
   if (!bound) listen();
@@ -153,6 +161,7 @@ function caption(got) {
 
 function choose(key) {
   kind = key;
+  drawing += 1; // what is being drawn is of another kind
   at("slice-tools").hidden = kind !== "slice";
   at("field-tools").hidden = kind !== "field";
   at("scale-tools").hidden = kind === "slice" || kind === "histogram";
@@ -278,9 +287,9 @@ function drawn(event) {
   if (inlines && crosslines) select({ i0: inlines[0], i1: inlines[1], x0: crosslines[0], x1: crosslines[1] });
 }
 
-async function select(box) {
+function select(box) {
   for (const [name, value] of Object.entries(box)) at("box").elements[name].value = value;
-  offer({ ask: "select", query: box, field: "inline", value: box.i0, shape: "rectangle", room: "maps" }, await ask("select", box));
+  return chosen({ ask: "select", query: box, field: "inline", value: box.i0, shape: "rectangle", room: "maps" });
 }
 
 function listen() {

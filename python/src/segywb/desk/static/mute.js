@@ -10,6 +10,7 @@ const MOST_SHOWN = 200;
 const room = at("mute");
 let asked = null; // the rectangle
 let got = null; // the samples that lie in it, of the version that is shown
+let turn = 0; // counts the questions
 
 const close = () => make("button", { type: "button", on: { click: () => { room.hidden = true; } } }, "Close");
 
@@ -55,13 +56,18 @@ function form() {
   preview();
 }
 
+// What lies in the rectangle that was drawn last, in the last version.
 async function look() {
+  const mine = ++turn;
   try {
-    got = await ask("boxed", asked);
+    let found = null;
+    do found = await ask("boxed", asked); while (mine === turn && found.version < store.version);
+    if (mine !== turn) return;
+    got = found;
     if (got.count && got.all) form();
     else fill(room, got.count ? "These are more runs of traces than the desk mutes as one step. " : "No samples in this rectangle. ", close());
   } catch (error) {
-    fill(room, make("span", { class: "no-text", role: "alert" }, error.message), " ", close());
+    if (mine === turn) fill(room, make("span", { class: "no-text", role: "alert" }, error.message), " ", close());
   }
 }
 

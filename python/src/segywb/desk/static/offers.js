@@ -11,6 +11,7 @@ let runs = [];
 let count = 0;
 let version = 0;
 let source = null;
+let turn = 0; // counts what was selected
 let preview = () => {};
 
 // The bytes of a field by its name or its place: the first one, and the one behind the last. Nothing where the page does not know it.
@@ -63,9 +64,16 @@ function foundLines(what, field, value, step, formula) {
 
 const names = () => (store.words ? store.words.names.map((one) => one.name) : []);
 
-// Offers what can be done to the traces of an answer. What was asked is told by `from`: the question and its words, the field and the number that are
-// suggested, what holds the traces, and the panel where they were selected.
-export function offer(from, got) {
+// Asks which traces were selected, and offers what can be done to them. What is asked is told by `from`: the question and its words, the field and the
+// number that are suggested, what holds the traces, and the panel where they were selected. What was selected last counts, as it is in the last version.
+export async function choose(from) {
+  const mine = ++turn;
+  let got = null;
+  do got = await ask(from.ask, from.query); while (mine === turn && got.version < store.version);
+  if (mine === turn) offer(from, got);
+}
+
+function offer(from, got) {
   runs = got.runs;
   count = got.count;
   version = got.version;
@@ -142,7 +150,9 @@ export function offer(from, got) {
 export function start() {
   part(async () => {
     if (at("offers").hidden || version === store.version) return;
+    const mine = turn;
     const got = await ask(source.ask, source.query);
+    if (mine !== turn) return; // something else was selected meanwhile
     if (!got.count || !got.all || !at("offer-run")) offer(source, got);
     else {
       ({ runs, count, version } = got);

@@ -12,42 +12,46 @@ let found = { version: 0, now: null, before: null };
 let looked = -1;
 let open = null;
 let block = 0;
+let turn = 0; // counts what is shown,
+let leading = 0; // what leads somewhere,
+let paging = 0; // and the windows of faults
 let texts = { version: 0, lines: null, before: null };
 
 const shows = { problems, numbers, text, edits };
 
+// Each of them asks, and shows what was answered where nothing else was to be shown meanwhile.
 async function show() {
-  await shows[chosen]();
+  const mine = ++turn;
+  await shows[chosen](() => mine === turn);
 }
 
 // ---- problems
 
-async function problems() {
+async function problems(last) {
   const { version, costly, traces } = store.state || await ask("state");
-  if (costly && looked !== version) return offerLook(version, traces);
+  if (costly && looked !== version) return last() && offerLook(version, traces);
   const got = await ask("problems").catch((error) => error);
+  if (!last()) return undefined;
   if (got.refused) return notTold(got.message); // the file could not be read again, or is another now
   if (got instanceof Error) throw got;
   const now = Object.fromEntries(got.problems.map((one) => [one.code, one]));
   if (got.version !== found.version) found = { version: got.version, now, before: found.now };
   const codes = Object.keys(store.words.problems).filter((code) => now[code] || (found.before || {})[code]);
   const count = got.problems.length;
-  if (chosen !== "problems") return;
   at("tab-problems").textContent = `Problems ${count}`;
   fill(at("panel"), make("p", { id: "problems-said" }, count ? `${many(count, "problem")}. Not every one is an error.` : traces ? "No problems found. The survey can still be wrong." : "No problems found: the file has no traces."),
     codes.length ? make("table", {}, make("tbody", {}, ...codes.map((code) => problemRow(code, now[code])))) : null, make("p", { id: "spot-said", "aria-live": "polite" }), make("div", { id: "problem-window" }));
   if (open && now[open]) await problemWindow(now[open]);
+  return undefined;
 }
 
 function notTold(why) {
-  if (chosen !== "problems") return;
   at("tab-problems").textContent = "Problems";
   fill(at("panel"), make("p", { id: "problems-said" }, `Not told: ${why}`));
 }
 
 // Where there are so many traces that a look at each of them takes long, it is taken when it is asked for.
 function offerLook(version, traces) {
-  if (chosen !== "problems") return;
   at("tab-problems").textContent = "Problems";
   fill(at("panel"), make("p", { id: "problems-said" }, `To find what is wrong or doubtful, each of ${many(traces, "trace")} is looked at.`),
     make("button", { type: "button", id: "look", on: { click: () => { looked = version; show().catch((error) => fill(at("panel"), error.message)); } } }, "Look for problems"));
@@ -63,10 +67,12 @@ function say(...parts) {
   const room = at("spot-said");
   if (room) fill(room, ...parts);
 }
-const unmark = () => make("button", { class: "link", type: "button", id: "spot-none", on: { click: () => { spot(nothing()); say(); } } }, "Take the marks away");
+const unmark = () => make("button", { class: "link", type: "button", id: "spot-none", on: { click: () => { leading += 1; spot(nothing()); say(); } } }, "Take the marks away");
 
-// To the traces of a run, or to the lines that are missing: all that is open shows them, and the page stays where it is.
+// To the traces of a run, or to the lines that are missing: all that is open shows them, and the page stays where it is. Where it leads elsewhere
+// meanwhile, or the traces are others by now, nothing is marked.
 async function lead(run) {
+  const mine = ++leading;
   if (run.gap) {
     const [name, low, high] = run.gap;
     spot({ ...nothing(), boxes: [name === "inline" ? [low, high, null, null] : [null, null, low, high]] });
@@ -74,8 +80,11 @@ async function lead(run) {
     return;
   }
   const last = run.last || run.trace;
-  spot(await ask("spot", { first: run.trace, last }));
+  const where = await ask("spot", { first: run.trace, last });
+  if (mine !== leading || where.version < store.version) return;
+  spot(where);
   await goTo(run.trace, true);
+  if (mine !== leading) return;
   say(`Marked on the map, in the section, on the graph and in the table, where these are open: ${last > run.trace ? `traces ${run.trace} to ${last}` : `trace ${run.trace}`}. `,
     make("button", { class: "link", type: "button", id: "spot-row", on: { click: () => goTo(run.trace) } }, "To its row"), ". ", unmark());
 }
@@ -107,9 +116,11 @@ async function problemWindow(one) {
 }
 
 async function faultWindow(one, skip) {
-  const got = await ask("fault", { code: one.code, skip });
   const room = at("fault-window");
   if (!room) return;
+  const mine = ++paging;
+  const got = await ask("fault", { code: one.code, skip });
+  if (mine !== paging) return;
   const items = got.faults.map((fault) => make("li", {}, fault.trace ? leads(fault) : fault.text,
     fault.first ? make("span", {}, "  ", leads({ trace: fault.first, text: `to trace ${fault.first}` })) : null));
   const step = (by, text) => make("button", { type: "button", disabled: skip + by < 0 || skip + by >= one.count, on: { click: () => faultWindow(one, skip + by) } }, text);
@@ -119,8 +130,9 @@ async function faultWindow(one, skip) {
 
 // ---- numbers
 
-async function numbers() {
+async function numbers(last) {
   const { numbers: now, before, loaded } = store.state || await ask("state");
+  if (!last()) return;
   const of = (list) => Object.fromEntries(list || []);
   const earlier = of(before);
   const first = of(loaded);
@@ -131,8 +143,9 @@ async function numbers() {
 
 // ---- texts
 
-async function text() {
+async function text(last) {
   const got = await ask("text", { block, compare: store.compare && block === 0 ? 1 : 0 });
+  if (!last()) return;
   if (texts.version !== got.version || texts.block !== block) texts = { version: got.version, block, lines: got.lines, before: texts.block === block ? texts.lines : null };
   const choice = make("select", { "aria-label": "block of text", on: { change: (event) => { block = Number(event.target.value); show(); } } },
     ...Array.from({ length: got.blocks + 1 }, (_, one) => make("option", { value: String(one), selected: one === block }, one ? `extended textual header ${one}` : "textual header")));
@@ -146,8 +159,9 @@ async function text() {
 
 // ---- edits
 
-async function edits() {
+async function edits(last) {
   const got = await ask("edits");
+  if (!last()) return;
   const item = (step, undone) => make("li", { class: undone ? "was" : "" }, step.count === 1 ? step.first : `${step.first}\n.. ${step.last}  (${many(step.count, "line")}, one step)`);
   fill(at("panel"),
     make("p", {}, got.lines ? `${many(got.lines, "accepted edit")}: with them as a script, ${got.words} gives the same file.` : "No edits yet. Here they will stand, as a script."),

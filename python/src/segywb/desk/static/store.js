@@ -6,7 +6,7 @@ export const store = { state: null, version: 0, compare: false, words: null, bou
 
 const parts = [];
 let running = false;
-let again = false;
+let again = false; // something is to be brought up to date
 
 export const part = (does) => parts.push(does);
 
@@ -18,6 +18,15 @@ export const whenSpotted = (does) => marked.push(does);
 export function spot(where) {
   store.spot = where;
   for (const does of marked) does(where);
+}
+
+// Whether something was wanted, or was not answered, while the server was not ready.
+export const behind = () => again;
+
+// The server is not ready: what it is asked from now on, and what it was asked before, may not be answered, and is asked again once it is.
+export function unready() {
+  store.ready = false;
+  again = true;
 }
 
 export async function refresh() {
@@ -52,6 +61,20 @@ part.state = async () => {
   store.state = await ask("state");
   store.bound = store.state.fields;
 };
+
+// What asks, and what takes the answer. Answers come in any order, and more may be asked before one is taken: the last one asked counts alone, and
+// whoever asked before it waits for that one.
+export function latest(asks, takes) {
+  let last = null;
+  return () => {
+    const mine = asks().then((got) => (mine === last ? takes(got) : last), (error) => {
+      if (mine === last) throw error;
+      return last;
+    });
+    last = mine;
+    return mine;
+  };
+}
 
 export async function done(name, body) {
   const answer = await tell(name, body);

@@ -2,7 +2,7 @@
 
 import { ask } from "./api.js";
 import { at, fill, make, many } from "./dom.js";
-import { part, store, whenSpotted } from "./store.js";
+import { latest, part, store, whenSpotted } from "./store.js";
 import { begin, runLine, whenFound } from "./command.js";
 
 let names = ["inline", "crossline", "offset", "x", "y", "scalar"];
@@ -16,17 +16,17 @@ let wanted = null;
 // The fields that are shown.
 export const columns = () => names;
 
-export async function show() {
-  const found = await ask("table", { first, size: at("size").value, names: names.join(" "), compare: store.compare ? 1 : 0 });
-  if (found.error) return found;
+const query = (some) => ({ first, size: at("size").value, names: some.join(" "), compare: store.compare ? 1 : 0 });
+
+export const show = latest(() => ask("table", query(names)), (found) => {
+  if (found.error) return;
   got = found;
   first = found.first;
   if (document.activeElement !== at("first")) at("first").value = found.first;
   at("first").max = found.traces;
   mark(found);
   drawTable();
-  return found;
-}
+});
 
 // What differs from what was shown of the same trace before the last step.
 function mark(found) {
@@ -42,8 +42,9 @@ function mark(found) {
   }
 }
 
+// The columns are those of the answer: others may have been asked for since.
 function drawTable() {
-  const head = make("tr", {}, make("th", { scope: "col" }, "trace"), ...names.map((name) => make("th", { scope: "col", title: told(name) },
+  const head = make("tr", {}, make("th", { scope: "col" }, "trace"), ...got.names.map((name) => make("th", { scope: "col", title: told(name) },
     make("button", { class: "link", type: "button", "aria-label": `find in ${name}`, on: { click: () => begin(`find 1 ${got.traces} ${name} `) } }, name),
     make("button", { type: "button", "aria-label": `leave out ${name}`, on: { click: () => drop(name) } }, "×"))));
   const body = got.rows.map((row, index) => rowOf(row, index));
@@ -64,19 +65,20 @@ function rowOf(row, index) {
 
 function cellOf(value, index, column, trace, origin) {
   const was = got.was && got.was[index] ? got.was[index][column] : null;
-  const changed = marked.has(`${origin} ${names[column]}`) || (was !== null && was !== value);
+  const name = got.names[column];
+  const changed = marked.has(`${origin} ${name}`) || (was !== null && was !== value);
   const cell = make("td", { class: changed ? "mark" : "", tabIndex: index === 0 && column === 0 ? 0 : -1, "data-at": `${index} ${column}`,
-    on: { dblclick: () => edit(cell, value, trace, names[column]), keydown: (event) => key(event, cell, value, index, column, trace) } },
+    on: { dblclick: () => edit(cell, value, trace, name), keydown: (event) => key(event, cell, value, index, column, trace, name) } },
   value, was !== null && was !== value ? make("span", { class: "was" }, `was ${was}`) : null);
   return cell;
 }
 
-function key(event, cell, value, index, column, trace) {
+function key(event, cell, value, index, column, trace, name) {
   if (event.target !== cell) return;
   const step = { ArrowUp: [-1, 0], ArrowDown: [1, 0], ArrowLeft: [0, -1], ArrowRight: [0, 1] }[event.key];
   if (event.key === "Enter" || event.key === "F2") {
     event.preventDefault();
-    edit(cell, value, trace, names[column]);
+    edit(cell, value, trace, name);
   } else if (step) {
     event.preventDefault();
     focusCell(index + step[0], column + step[1]);
@@ -126,22 +128,21 @@ async function add(event) {
   event.preventDefault();
   const name = at("column").value.trim();
   if (!name || names.includes(name)) return;
-  const before = names;
-  names = [...names, ...name.split(/\s+/)];
-  const found = await show();
+  const some = name.split(/\s+/);
+  const found = await ask("table", query([...names, ...some])); // the columns stay what they are until these are known
   if (found.error) {
-    names = before;
     at("column").setCustomValidity(found.error);
     at("column").reportValidity();
-  } else {
-    at("column").value = "";
+    return;
   }
+  if (at("column").value.trim() === name) at("column").value = "";
+  names = [...names, ...some.filter((one) => !names.includes(one))];
+  await show();
 }
 
 // The headers that are used, with their least and greatest numbers: shown on demand, since every trace is looked at.
-async function used() {
-  if (!at("used").open) return;
-  const found = await ask("extremes").catch((error) => ({ error: error.message }));
+const used = latest(async () => (at("used").open ? ask("extremes").catch((error) => ({ error: error.message })) : null), (found) => {
+  if (!found) return;
   if (found.error) {
     fill(at("used-room"), found.error);
     return;
@@ -152,7 +153,7 @@ async function used() {
     ...numbers.map((one) => make("td", {}, one))));
   fill(at("used-room"), make("p", { id: "used-said" }, `${many(found.rows.length, "field")} used. The others are 0 in every trace.`),
     found.rows.length ? make("table", {}, make("thead", {}, head), make("tbody", {}, ...body)) : null);
-}
+});
 
 async function addColumn(name) {
   if (names.includes(name)) return;
@@ -166,6 +167,7 @@ export async function goTo(trace, stay = false) {
   const size = Number(at("size").value);
   if (!got || trace < got.first || trace >= got.first + got.rows.length) first = Math.max(1, trace - Math.floor(size / 4));
   await show();
+  if (here !== trace) return; // to another one since
   const row = at("table-room").querySelector("tr.here");
   if (row && stay) at("table-room").scrollTop = row.offsetTop - row.offsetHeight * 2;
   else if (row) {

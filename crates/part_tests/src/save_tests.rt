@@ -69,6 +69,7 @@ fn check(rt: &impl Abort, nth: u32, last: bool, folder: &FakeFolder, saved: Resu
                 _ => Step::Rename,
             };
             assert!(rt; fault.step == step && !is_new, "at {nth}");
+            assert!(rt; folder.failed == Some(step), "at {nth}");
             assert!(rt; is_left == (last && nth > 0), "at {nth}");
             assert!(rt; fault.left == (last && nth > 0) || nth == 0, "at {nth}");
         }
@@ -83,6 +84,23 @@ fn a_save_that_is_given_up_leaves_nothing(rt: HostRuntime) -> Result<(), Fail> {
     assert_eq!(rt; save.taken(), 2);
     let (folder, removed) = save.discard();
     assert!(rt; removed.is_ok() && folder.beside.is_none() && folder.out.is_none());
+    Ok(())
+}
+
+#[test]
+fn a_write_that_takes_nothing_has_failed(rt: HostRuntime) -> Result<(), Fail> {
+    use std::io::Write;
+    let folder = FakeFolder::new(rt.alloc(), 9, 9, 0);
+    let mut writer = BufWriter::with_capacity(rt.alloc(), 4, Save::new(folder))?;
+    writer.write_all(b"abc")?;
+    let (folder, saved) = end_save(writer, None);
+    assert!(rt; folder.out.is_none() && folder.beside.is_none());
+    match saved {
+        Err(SaveError::NotSaved(fault)) => {
+            assert!(rt; fault.step == Step::Write && fault.taken == 0 && !fault.left);
+        }
+        _ => assert!(rt; false),
+    }
     Ok(())
 }
 

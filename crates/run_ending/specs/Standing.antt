@@ -1,7 +1,7 @@
 -- What stands under OUT behind the end of a run.
 use Rattle.std.specs.Prelude.{◌≡◌, ◌⊎◌, ⊤, ℕ, Bool, true, false, List, Option, None}
 use Rattle.safe_save.specs.Disk.{Disk}
-use Rattle.safe_save.specs.Saving.{IsStored, IsNotStored}
+use Rattle.safe_save.specs.Saving.{IsStored, IsNotStored, IsCause, given_up_at, ever_taken_by}
 use Rattle.safe_save.specs.declared.save_error.Fault.{Fault}
 use Rattle.safe_save.specs.declared.save_error.SaveError.{SaveError}
 use Rattle.safe_save.specs.declared.save_error.SaveError.TheVariants.{NotSaved, NotSettled}
@@ -50,6 +50,15 @@ abbrev pub StandsAs : OutEnd → Option ℕ → List ℕ → Disk → Type 0
 StandsAs NotBegun mode bytes d = d.out ≡ None
 StandsAs Saved mode bytes d = IsStored mode bytes d
 StandsAs (Refused error) mode bytes d = IsNotStored error mode bytes d
+
+-- what is told of a save that was refused: behind all lines a step failed, the one that is told; one that was given up before tells the step that failed
+-- last, or where none did the write that was not made; and how many bytes the new file took
+abbrev pub TellsCause : Bool → OutEnd → Disk → Type 0
+TellsCause whole NotBegun d = ⊤
+TellsCause whole Saved d = ⊤
+TellsCause true (Refused error) d = IsCause error d
+TellsCause false (Refused (NotSaved fault)) d = (fault.step ≡ given_up_at d.failed) × (fault.taken ≡ ever_taken_by d)
+TellsCause false (Refused (NotSettled error)) d = ⊥
 
 -- what the one who called the program is told of a save that ended so: done, but that FILE may have changed while it was copied; or that it failed, or why
 -- FILE was not taken for the one that was loaded; or that a power cut may undo it

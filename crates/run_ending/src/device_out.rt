@@ -1,5 +1,5 @@
 // A save to a pipe or a device.
-ghost use Rattle.std.specs.Prelude.{◌≡◌, None, Option};
+ghost use Rattle.std.specs.Prelude.{◌≡◌, None, Option, option_map};
 ghost use Rattle.std.specs.Io.{WritesAtMost};
 ghost use Rattle.run_ending.specs.Passing.{PassesOn};
 
@@ -30,7 +30,7 @@ pub struct DeviceOut<'a, R: Files> {
 impl<'a, R: Files> Model for DeviceOut<'a, R> {
     ghost Value = { Option R.File };
 
-    ghost view = { λ s. s.file };
+    ghost view = { λ s. option_map (λ f. f.file) s.file };
 }
 
 impl<'a, R: Files + AllocGlobal> DeviceOut<'a, R> {
@@ -107,9 +107,10 @@ impl<'a, R: Files + AllocGlobal> DeviceOut<'a, R> {
 }
 
 // One write to the file that is open: it takes the first bytes, in order and once.
-fn put<W: Write>(file: &mut Option<W>, bytes: &[u8]) -> Result<usize>
+fn put<W: Write>(file: &mut Option<BoundedFile<W>>, bytes: &[u8]) -> Result<usize>
     ensures bound { WritesAtMost result bytes.now }
-    ensures bytes { PassesOn W.contents file.old file.new result bytes.now }
+    ensures bytes { PassesOn W.contents (option_map (λ f. f.file) file.old)
+        (option_map (λ f. f.file) file.new) result bytes.now }
 {
     match file {
         Some(file) => file.write(bytes),

@@ -2,7 +2,7 @@
 ghost use Rattle.std.specs.Prelude.{MatchResult, ◌≡◌, IsErr, IfErr, option_map};
 ghost use Rattle.std.specs.Io.Buffered.{writer_contents};
 ghost use Rattle.safe_save.specs.Saving.{Stored, IsNeverElse, beside_bytes};
-ghost use Rattle.run_ending.specs.Standing.{FitsRun, IsFaultOf, StandsAs};
+ghost use Rattle.run_ending.specs.Standing.{FitsRun, IsFaultOf, StandsAs, TellsCause, is_whole};
 ghost use Rattle.run_ending.specs.declared.out_end.OutEnd.TheVariants.{Refused, Saved};
 
 use safe_save::{Fault, Folder, Save, SaveError, Step, end_save, give_up};
@@ -22,7 +22,7 @@ pub enum OutEnd {
 
 /// Ends the save of a run that ended so: writes what waits and lets OUT be the new file, where all
 /// lines were run and a save is asked for; else the new file is taken away. The folder comes back.
-/// It is not said that a save which could be done is done: see `Save::finish` for its cause.
+/// A save that could be done is done: one is refused only where a step of it failed (`cause`).
 pub fn end_out<F: Folder + Drop>(
     end: RunEnd,
     is_asked: bool,
@@ -35,6 +35,10 @@ pub fn end_out<F: Folder + Drop>(
     // for the sync of the folder, only where it is what it was.
     ensures stands { Stored (writer_contents (option_map beside_bytes) writer) (F.disk result.0)
         (StandsAs result.1 mode) }
+
+    // What is told of a save that was refused is what failed.
+    ensures cause { Stored (writer_contents (option_map beside_bytes) writer) (F.disk result.0)
+        (λ _. TellsCause (is_whole is_asked end) result.1) }
 
     // A crash at any moment since the folder was taken leaves the old file or those bytes.
     ensures any_moment { Stored (writer_contents (option_map beside_bytes) writer) (F.disk result.0)

@@ -1,7 +1,8 @@
 // A file that is written up to a limit on its size.
-ghost use Rattle.std.specs.Prelude.{◌≡◌};
+ghost use Rattle.std.specs.Prelude.{◌≡◌, ◌≤◌};
 ghost use Rattle.std.specs.Io.{WritesAtMost};
 ghost use Rattle.std.specs.Io.KnownBytes.{WriteAppends};
+ghost use Rattle.safe_save.specs.Bounded.{Bounded, Counts};
 
 use std::io::{Error, ErrorKind, Result, Write};
 use std::marker::Model;
@@ -14,7 +15,7 @@ const TOO_LARGE: i32 = 27;
 
 /// A file that is being written, of at most `limit` bytes: a write behind the system's own limit
 /// would end the process by a signal. A write that a signal interrupts is made again. A clause sees
-/// it as the file inside.
+/// it as the file inside, the limit, and how many bytes it took, which are never more.
 #[derive(Drop)]
 pub struct BoundedFile<W> {
     inner: W,
@@ -23,15 +24,17 @@ pub struct BoundedFile<W> {
 }
 
 impl<W> Model for BoundedFile<W> {
-    ghost Value = { W };
+    ghost Value = { Bounded W };
 
-    ghost view = { λ f. f.inner };
+    ghost view = { λ f. record { file = f.inner; limit = f.limit; taken = f.written } };
+
+    ghost invariant = { λ f. f.written ≤ f.limit };
 }
 
 impl<W: Write> BoundedFile<W> {
     /// A file that has no bytes yet.
     pub fn new(inner: W, limit: u64) -> BoundedFile<W>
-        ensures { result ≡ inner }
+        ensures { result ≡ record { file = inner; limit = limit; taken = 0 } }
     {
         BoundedFile {
             inner,
@@ -42,23 +45,28 @@ impl<W: Write> BoundedFile<W> {
 
     /// The file, as it is now.
     pub fn into_inner(self) -> W
-        ensures { result ≡ self }
+        ensures { result ≡ self.file }
     {
         self.inner
     }
 
     /// The file, to be looked at.
     pub fn inner(&self) -> &W
-        ensures { result.now ≡ self.now }
+        ensures { result.now ≡ self.now.file }
     {
         &self.inner
     }
 }
 
 impl<W: Write> Write for BoundedFile<W> {
-    ghost contents = { λ f. W.contents f };
+    ghost contents = { λ f. W.contents f.file };
 
-    fn write(&mut self, buf: &[u8]) -> Result<usize> {
+    fn write(&mut self, buf: &[u8]) -> Result<usize>
+        ensures bound { WritesAtMost result buf.now }
+        ensures bytes { WriteAppends (W.contents self.old.file) (W.contents self.new.file) result
+            buf.now }
+        ensures count { Counts self.old self.new result }
+    {
         let room = self.limit.saturating_sub(self.written);
         if room == 0 && !buf.is_empty() {
             return Err(Error::from_raw_os_error(TOO_LARGE));

@@ -1,7 +1,8 @@
 // A save through a buffer.
-ghost use Rattle.std.specs.Prelude.{OnOk, IfErr, IsErr, option_map};
+ghost use Rattle.std.specs.Prelude.{◌≢◌, ◌≤◌, length, take, OnOk, IfErr, IsErr, option_map};
 ghost use Rattle.std.specs.Io.Buffered.{writer_contents};
-ghost use Rattle.safe_save.specs.Saving.{Over, Stored, beside_bytes, IsStored, IsNotStored, IsNeverElse, NeverTouched, IsGone};
+ghost use Rattle.std.specs.Io.KnownBytes.{Appends};
+ghost use Rattle.safe_save.specs.Saving.{Known, Over, Stored, beside_bytes, IsStored, IsNotStored, IsCause, HasFailed, IsNeverElse, NeverTouched, IsGone};
 
 use crate::folder::Folder;
 use crate::save::Save;
@@ -11,7 +12,7 @@ use std::io::{BufWriter, Error, ErrorKind, Write};
 /// Ends a save: writes what waits in the buffer, and lets OUT be the new file. The folder comes
 /// back.
 pub fn end_save<F: Folder + Drop>(
-    mut writer: BufWriter<Save<F>>,
+    writer: BufWriter<Save<F>>,
     mode: Option<u32>,
 ) -> (F, Result<(), SaveError>)
     // At `Ok` OUT is the bytes that the writer held, all of them, and is found so after each crash.
@@ -21,19 +22,42 @@ pub fn end_save<F: Folder + Drop>(
     ensures refused { IfErr result.1 (λ e. Stored (writer_contents (option_map beside_bytes) writer)
         (F.disk result.0) (IsNotStored e mode)) }
 
+    // It does not give up by itself: a step failed, the one that it tells was the last to, and so
+    // many bytes the new file took.
+    ensures cause { IfErr result.1 (λ e. Stored (writer_contents (option_map beside_bytes) writer)
+        (F.disk result.0) (λ _. IsCause e)) }
+
     // A crash at any moment since the folder was taken leaves the old file or those bytes.
     ensures any_moment { Stored (writer_contents (option_map beside_bytes) writer) (F.disk result.0)
         (IsNeverElse mode) }
 {
-    let flushed = writer.flush();
-    let (save, _waiting) = writer.into_parts();
-    match flushed {
-        Ok(()) => save.finish(mode),
-        Err(_) => give_up(save),
+    let (mut save, waiting) = writer.into_parts();
+    if write_out(&mut save, waiting.as_slice()) == waiting.len() {
+        save.finish(mode)
+    } else {
+        give_up(save)
     }
 }
 
-/// Ends a save in which a write failed: the new file is taken away. The folder comes back.
+// Writes what waited, until all of it is written or a write fails, and tells how many bytes were.
+fn write_out<F: Folder>(save: &mut Save<F>, waiting: &[u8]) -> usize
+    ensures bound { result ≤ length waiting.now }
+    ensures bytes { Appends (option_map beside_bytes save.old) (option_map beside_bytes save.new)
+        (take result waiting.now) }
+    ensures cause { result ≢ length waiting.now → Known save.new HasFailed }
+{
+    let mut written = 0;
+    while written < waiting.len() {
+        match save.write(&waiting[written..]) {
+            Ok(count) => written += count,
+            Err(_) => return written,
+        }
+    }
+    written
+}
+
+/// Ends a save in which a write failed, or the bytes for one: the new file is taken away. The
+/// folder comes back.
 pub fn give_up<F: Folder>(save: Save<F>) -> (F, Result<(), SaveError>)
     ensures not_saved { IsErr result.1 }
     ensures refused { IfErr result.1 (λ e. Over (IsGone e) save (F.disk result.0)) }

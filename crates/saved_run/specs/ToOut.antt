@@ -8,7 +8,7 @@ use Rattle.script_text.specs.Devices.{Device}
 use Rattle.script_text.specs.declared.run_end.RunEnd.{RunEnd}
 use Rattle.script_run.specs.declared.options.Options.{Options}
 use Rattle.script_run.specs.Ends.{Devices, devices, Runs, RunsThrough}
-use Rattle.run_ending.specs.Standing.{FitsRun, StandsAs}
+use Rattle.run_ending.specs.Standing.{FitsRun, StandsAs, TellsCause, is_whole}
 use Rattle.run_ending.specs.declared.out_end.OutEnd.{OutEnd}
 
 -- the writer of a save that holds these bytes, none of whose writes has failed yet
@@ -19,6 +19,7 @@ writer_of bytes = record { bytes = bytes; failures = 0 }
 pub record EndsOut (options : Options) (mode : Option ℕ) (bytes : Option (List ℕ)) (end : RunEnd) (ended : OutEnd) (disk : Option Disk) : Type 0 where
   pub fits : FitsRun options.save end ended
   pub stands : Stored bytes disk (StandsAs ended mode)
+  pub cause : Stored bytes disk (λ _. TellsCause (is_whole options.save end) ended)
   pub any_moment : Stored bytes disk (IsNeverElse mode)
 
 -- a run, from its readers and writers before it to their end, and then the end of its save: under OUT stands what its end says of the bytes that the

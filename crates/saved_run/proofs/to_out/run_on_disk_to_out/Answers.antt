@@ -12,6 +12,7 @@ returns-clause-run g c = on_ok c.run_on_disk-run.result.volume _ _ (λ volume ru
   ends = record {
     fits = c.end_out-folder.ensures.fits;
     stands = rw c.into_inner.ensures at c.end_out-folder.ensures.stands;
+    cause = rw c.into_inner.ensures at c.end_out-folder.ensures.cause;
     any_moment = rw c.into_inner.ensures at c.end_out-folder.ensures.any_moment;
   };
 }) c.run_on_disk-run.ensures.run

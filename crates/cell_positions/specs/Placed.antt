@@ -1,11 +1,9 @@
 -- Where traces stand.
 use Rattle.std.specs.Prelude.{ℕ, pos, ◌-◌, ◌&&◌, List, map, slice_get, Option, Some, None, option_and_then, if◌then◌else◌}
 use Rattle.std.specs.Ordering.{int_eq}
-use Rattle.key_counts.specs.Packed.{ratio_in}
 use Rattle.key_counts.specs.declared.ratio.Ratio.{Ratio}
 use Rattle.trace_record.specs.Facts.{Facts}
 use Rattle.position_differences.specs.declared.difference.Position.{Position}
-use Rattle.cell_positions.specs.declared.placed.PackedPosition.{PackedPosition}
 
 -- a position, which is none where x and y are both 0
 abbrev pub standing_at : Ratio → Ratio → Option Position
@@ -22,7 +20,3 @@ positions_of fs = map position_of fs
 -- that of trace n, counted from 1
 abbrev pub position_at : List (Option Position) → ℕ → Option Position
 position_at ps n = option_and_then (λ p. p) (slice_get ps (n - 1))
-
--- that which is packed
-abbrev pub place_in : PackedPosition → Option Position
-place_in p = standing_at (ratio_in p.x) (ratio_in p.y)

@@ -497,7 +497,7 @@ impl LiveVolume {
                 let overlay = &mut self.overlay;
                 problems_answer(alloc, overlay, &self.fields, grid, triples)
             }
-            Query::Survey => survey_answer(alloc, &self.overlay),
+            Query::Survey => survey_answer(alloc, &self.overlay, self.reports.grid()),
             Query::Lines(b) => lines_answer(alloc, &self.overlay, *b),
             Query::Table(a, b, fields) => {
                 let overlay = &mut self.overlay;

@@ -137,7 +137,15 @@ fn problem_lines(
         crosslines.as_slice(),
         lone.is_some(),
     )?;
-    push_of_positions(alloc, &mut lines, records, shots, lone.is_some())?;
+    push_of_positions(
+        alloc,
+        &mut lines,
+        records,
+        inlines.as_slice(),
+        crosslines.as_slice(),
+        shots,
+        lone.is_some(),
+    )?;
     push_of_samples(alloc, &mut lines, records, floats)?;
     Ok(lines)
 }

@@ -2,6 +2,10 @@
 ghost use Rattle.std.specs.Prelude.{◌≡◌, ◌++◌, ◌<◌, ◌^◌, [], length, map, IfErr, OnOk, if◌then◌else◌};
 ghost use Rattle.trace_record.specs.Facts.{facts_of};
 ghost use Rattle.trace_record.specs.Packed.{record_in};
+ghost use Rattle.trace_record.specs.Tally.{Same, tally_of};
+ghost use Rattle.grid_live.specs.Cells.{crosslines as crosslines_of, inlines as inlines_of};
+ghost use Rattle.grid_live.specs.GridKeys.{keys_of_grid};
+ghost use Rattle.grid_live.specs.OfGrid.{tally_of_grid};
 ghost use Rattle.bench_rules.specs.declared.ask_fault.AskFault.TheVariants.{OutOfMemory as no_memory};
 ghost use Rattle.bench_rules.specs.declared.query.Query.TheVariants as queries;
 ghost use Rattle.bench_rules.specs.Answer.{IsReply};
@@ -11,22 +15,26 @@ ghost use Rattle.bench_rules.specs.State.{State};
 
 use crate::lines::{push_jumps, push_shared};
 use bench_rules::{Answer, AskFault, ProblemLine};
-use cell_positions::{position_jumps, shared_positions, survey_grid};
 use edit_overlay::Overlay;
+use grid_live::{Grid, Line};
 use record_table::Records;
 use std::alloc::Global;
+use survey_cells::{find_cells, position_jumps, shared_positions, survey_grid};
 use trace_record::PackedRecord;
 
-/// S10 and S11, where the traces have survey numbers. Takes memory for the cells, their positions
-/// and the lines.
+/// S10 and S11, where the traces have survey numbers. Takes memory for the cells and the lines.
 pub(crate) fn push_of_positions(
     alloc: Global,
     lines: &mut Vec<ProblemLine>,
     records: &Records,
+    inlines: &[Line],
+    crosslines: &[Line],
     shots: bool,
     is_lone: bool,
 ) -> Result<(), AskFault>
-    requires { length records.now < 2 ^ 32 }
+    requires few { length records.now < 2 ^ 32 }
+    requires inlines { inlines.now ≡ inlines_of (map facts_of records.now) }
+    requires crosslines { crosslines.now ≡ crosslines_of (map facts_of records.now) }
     ensures ok { OnOk result (lines.new.items ≡ lines.old.items
         ++ (if is_lone then [] else position_problems shots (map facts_of records.now))) }
     ensures err { IfErr result (λ fault. fault ≡ no_memory) }
@@ -34,18 +42,31 @@ pub(crate) fn push_of_positions(
     if is_lone {
         return Ok(());
     }
-    push_jumps(lines, position_jumps(alloc, records, shots)?)?;
-    push_shared(lines, shared_positions(alloc, records, shots)?)?;
+    let cells = find_cells(alloc, records)?;
+    let jumps = position_jumps(alloc, cells.as_slice(), inlines, crosslines, shots)?;
+    push_jumps(lines, jumps)?;
+    push_shared(lines, shared_positions(alloc, cells, shots)?)?;
     Ok(())
 }
 
-/// The grid of the survey in one line. Looks at no trace. Takes memory for the cells and their
-/// positions while it is made; refused for want of it alone, E11.
-pub fn survey_answer(alloc: Global, overlay: &Overlay<PackedRecord>) -> Result<Answer, AskFault>
-    requires { length overlay.now.payloads < 2 ^ 32 }
+/// The grid of the survey in one line. Looks at no trace. Takes memory for the cells, the lines and
+/// the differences of positions while it is made; refused for want of it alone, E11.
+pub fn survey_answer(
+    alloc: Global,
+    overlay: &Overlay<PackedRecord>,
+    grid: &Grid,
+) -> Result<Answer, AskFault>
+    requires few { length overlay.now.payloads < 2 ^ 32 }
+    requires grid { Same (tally_of_grid grid.now) (tally_of keys_of_grid
+        (map facts_of (map record_in overlay.now.payloads))) }
     ensures { (s : State) → AreRecordsOf s (map record_in overlay.now.payloads) →
         IsReply s queries.Survey result }
 {
     let records = Records::new(overlay.payloads());
-    Ok(Answer::Survey(survey_grid(alloc, &records)?))
+    let inlines = grid.inlines(alloc)?;
+    let crosslines = grid.crosslines(alloc)?;
+    let cells = find_cells(alloc, &records)?;
+    let cells = cells.as_slice();
+    let grid = survey_grid(alloc, cells, inlines.as_slice(), crosslines.as_slice())?;
+    Ok(Answer::Survey(grid))
 }

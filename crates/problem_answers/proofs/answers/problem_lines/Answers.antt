@@ -21,6 +21,14 @@ pub push_of_survey-requires-clause-crosslines : goal.push_of_survey-requires-cla
 push_of_survey-requires-clause-crosslines c =
     c.as_slice-4.ensures.value ∙ crosslines_are c.args.grid.now (map facts_of c.args.records.now) c.requires.grid c.in_ok-crosslines.crosslines.items c.in_ok-crosslines.ensures
 
+pub push_of_positions-requires-clause-inlines : goal.push_of_positions-requires-clause-inlines
+push_of_positions-requires-clause-inlines c =
+    c.as_slice-5.ensures.value ∙ inlines_are c.args.grid.now (map facts_of c.args.records.now) c.requires.grid c.in_ok-inlines.inlines.items c.in_ok-inlines.ensures
+
+pub push_of_positions-requires-clause-crosslines : goal.push_of_positions-requires-clause-crosslines
+push_of_positions-requires-clause-crosslines c =
+    c.as_slice-6.ensures.value ∙ crosslines_are c.args.grid.now (map facts_of c.args.records.now) c.requires.grid c.in_ok-crosslines.crosslines.items c.in_ok-crosslines.ensures
+
 pub returns-clause-ok : goal.returns-clause-ok
 returns-clause-ok c =
     let fs : List Facts = map facts_of c.args.records.now in

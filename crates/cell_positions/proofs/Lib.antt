@@ -1,9 +1,0 @@
-pub mod OrderLemmas
-pub mod CellLemmas
-pub mod LineLemmas
-pub mod FindLemmas
-pub mod PairLemmas
-pub mod PairOrderLemmas
-pub mod PlacedLemmas
-pub mod ToldLemmas
-pub mod NumberLemmas

@@ -1,8 +1,0 @@
-use Rattle.std.proofs.Common.{ap, ◌∙◌}
-use Rattle.line_problems.specs.LineSpans.{span_of}
-use Rattle.cell_positions.specs.Steps.{inline_span_of}
-use Rattle.cell_positions.proofs.lines.inline_span.Goals as goal
-
-pub returns : goal.returns
-unfolding inline_span_of
-returns c = c.in_ok-span.ensures ∙ ap span_of (c.deref.ensures.value ∙ c.in_ok-lines.ensures)

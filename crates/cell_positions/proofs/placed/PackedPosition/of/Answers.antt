@@ -1,8 +1,0 @@
-use Rattle.trace_record.specs.Packable.{each_fits}
-use Rattle.cell_positions.proofs.placed.PackedPosition.of.Goals as goal
-
-pub of-requires : goal.of-requires
-of-requires c = (each_fits _ _ _ _ c.args.record.now.small).1
-
-pub of-requires-2 : goal.of-requires-2
-of-requires-2 c = (each_fits _ _ _ _ c.args.record.now.small).2

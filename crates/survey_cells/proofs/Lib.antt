@@ -1,0 +1,12 @@
+pub mod OrderLemmas
+pub mod CellLemmas
+pub mod StandLemmas
+pub mod FindLemmas
+pub mod PairLemmas
+pub mod PairOrderLemmas
+pub mod PlacedLemmas
+pub mod ToldLemmas
+pub mod NumberLemmas
+pub mod HeldLemmas
+pub mod FarLemmas
+pub mod WholeLemmas

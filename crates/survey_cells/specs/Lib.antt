@@ -1,0 +1,5 @@
+pub mod Held
+pub mod Neighbours
+pub mod Along
+pub mod Standing
+pub mod Grid

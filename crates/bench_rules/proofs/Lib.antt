@@ -36,4 +36,5 @@ pub mod RisingLemmas
 pub mod FloatLemmas
 pub mod ToldLemmas
 pub mod TestLemmas
+pub mod TestTermLemmas
 pub mod LackLemmas

@@ -15,7 +15,7 @@ use Rattle.bench_rules.specs.declared.section.Section.{Section}
 use Rattle.bench_rules.specs.Answer.{answer}
 use Rattle.bench_rules.specs.ChosenExamples.{far, loaded, unknown}
 use Rattle.bench_rules.specs.Looks.{query_looks}
-use Rattle.bench_rules.specs.Sections.{numbers_behind, rows_of, samples_asked}
+use Rattle.bench_rules.specs.Sections.{numbers_asked, rows_of, samples_asked}
 use Rattle.bench_rules.specs.State.{State}
 
 abbrev by : (from to step : ℕ) → SampleRange
@@ -23,26 +23,22 @@ by from to step = record { from = from; to = to; step = step }
 
 -- ---- which numbers are asked for
 
-pub numbers-each : numbers_behind (by 2 5 1) 2 ≡ 2 ∷ 3 ∷ 4 ∷ 5 ∷ []
+pub numbers-each : numbers_asked (by 2 5 1) ≡ 2 ∷ 3 ∷ 4 ∷ 5 ∷ []
 numbers-each = refl
 
-pub numbers-third : numbers_behind (by 2 9 3) 2 ≡ 2 ∷ 5 ∷ 8 ∷ []
+pub numbers-third : numbers_asked (by 2 9 3) ≡ 2 ∷ 5 ∷ 8 ∷ []
 numbers-third = refl
 
-pub numbers-one : numbers_behind (by 4 4 7) 4 ≡ 4 ∷ []
+pub numbers-one : numbers_asked (by 4 4 7) ≡ 4 ∷ []
 numbers-one = refl
 
 -- none where the first is above the last
-pub numbers-none : numbers_behind (by 5 4 1) 5 ≡ []
+pub numbers-none : numbers_asked (by 5 4 1) ≡ []
 numbers-none = refl
 
 -- a step of 0 counts as 1
-pub numbers-zero : numbers_behind (by 2 4 0) 2 ≡ 2 ∷ 3 ∷ 4 ∷ []
+pub numbers-zero : numbers_asked (by 2 4 0) ≡ 2 ∷ 3 ∷ 4 ∷ []
 numbers-zero = refl
-
--- those behind the first two
-pub numbers-rest : numbers_behind (by 2 9 3) 8 ≡ 8 ∷ []
-numbers-rest = refl
 
 -- ---- the rows
 

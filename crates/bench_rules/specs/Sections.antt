@@ -10,21 +10,21 @@ use Rattle.bench_rules.specs.declared.sample_range.SampleRange.{SampleRange}
 use Rattle.bench_rules.specs.declared.section.Section.{Section}
 use Rattle.bench_rules.specs.Replies.{Reply, of_values}
 
--- sample k is the first that is asked for, or some steps behind it
+-- of the numbers from the first on: k is that one, or lies a whole number of steps behind it; a step of 0 counts as 1
 abbrev pub is_stepped : SampleRange → ℕ → Bool
 is_stepped r k = (k - r.from) % max 1 r.step == 0
 
--- those of the numbers from k up to the last that are asked for
-abbrev pub numbers_behind : SampleRange → (k : ℕ) → List ℕ
-numbers_behind r k = filter (is_stepped r) (range_with_len k (r.to + 1 - k))
+-- the numbers that are asked for: of those from the first to the last the first, and each that lies a whole number of steps behind it
+abbrev pub numbers_asked : SampleRange → List ℕ
+numbers_asked r = filter (is_stepped r) (range_with_len r.from (r.to + 1 - r.from))
 
--- the samples with these numbers, as far as the trace has them
-abbrev pub samples_behind : Head → SampleRange → (k : ℕ) → List ℕ → List ℤ
-samples_behind h r k t = filter_map (sample_of h t) (numbers_behind r k)
+-- the samples with these numbers, as far as a trace of these bytes has them
+abbrev pub samples_in_range : Head → SampleRange → List ℕ → List ℤ
+samples_in_range h r t = filter_map (sample_of h t) (numbers_asked r)
 
 -- the samples that are asked of trace p
 abbrev pub samples_asked : Volume → SampleRange → (p : ℕ) → List ℤ
-samples_asked v r p = samples_behind v.head r r.from (trace_at v p)
+samples_asked v r p = samples_in_range v.head r (trace_at v p)
 
 -- a row for each of the traces: its position, and the samples that are asked of it
 abbrev pub rows_of : Volume → Section → List (ℕ × List ℤ)

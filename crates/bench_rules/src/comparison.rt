@@ -19,18 +19,14 @@ pub enum Comparison {
 pub fn compares(comparison: Comparison, left: SideValue, right: SideValue) -> bool
     ensures { result ≡ compares_of comparison left right }
 {
-    // Most are numbers of header fields.
-    if let (SideValue::Whole(number), SideValue::Whole(other)) = (left, right) {
-        return admits(comparison, number.cmp(&other));
-    }
     match order_of(left, right) {
         Some(order) => admits(comparison, order),
         None => false,
     }
 }
 
-// Whether the comparison holds of what stands so.
-fn admits(comparison: Comparison, order: Ordering) -> bool
+/// Whether the comparison holds of what stands so. Takes no memory.
+pub(crate) fn admits(comparison: Comparison, order: Ordering) -> bool
     ensures { result ≡ admits_order comparison order }
 {
     match comparison {

@@ -1,13 +1,18 @@
 // A condition on one trace.
-ghost use Rattle.std.specs.Prelude.{◌≡◌};
+ghost use Rattle.std.specs.Prelude.{◌≡◌, option_map, option_and_then};
 ghost use Rattle.std.specs.List.{list_any};
+ghost use Rattle.std.specs.Ordering.{int_cmp};
 ghost use Rattle.trace_view.specs.Shown.{bytes_of, head_of};
+ghost use Rattle.bench_rules.specs.Computed.{term_in as number_of_term};
 ghost use Rattle.bench_rules.specs.Conditions.{are_comparable as may_compare, asks_values as asks_values_of, lacks_values as lack_values, meets_by, test_by, test_of as test_of_condition};
+ghost use Rattle.bench_rules.specs.SideValues.{admits as admits_order};
 ghost use Rattle.bench_rules.specs.SampleFacts.{is_decimal as is_a_decimal, is_extreme as is_an_extreme};
 
-use crate::comparison::{Comparison, compares};
+use crate::comparison::{Comparison, admits, compares};
+use crate::computation::term_in;
 use crate::condition::Condition;
 use crate::sample_fact::SampleFact;
+use crate::term::Term;
 use crate::test_side::{TestSide, side_of, value_of};
 use field_map::FieldMap;
 use sample_codes::Format;
@@ -106,7 +111,7 @@ pub fn meets_all(
 {
     let mut all = true;
     for test in tests {
-        let Some(here) = meets_one(trace, amplitudes, *test) else {
+        let Some(here) = meets_one(trace, amplitudes, test) else {
             return None;
         };
         all &= here;
@@ -115,10 +120,32 @@ pub fn meets_all(
 }
 
 // Whether the trace meets a condition; `None` where it lacks a place of it.
-fn meets_one(trace: &TraceView<'_>, amplitudes: Option<Amplitudes>, test: Test) -> Option<bool>
-    ensures { result ≡ test_by (head_of trace.now) (bytes_of trace.now) amplitudes test }
+fn meets_one(trace: &TraceView<'_>, amplitudes: Option<Amplitudes>, test: &Test) -> Option<bool>
+    ensures { result ≡ test_by (head_of trace.now) (bytes_of trace.now) amplitudes test.now }
 {
+    // Most are on header fields and numbers alone.
+    if let TestSide::Term(left) = test.left {
+        if let TestSide::Term(right) = test.right {
+            return meets_terms(trace, test.comparison, left, right);
+        }
+    }
     let left = value_of(trace, amplitudes, test.left)?;
     let right = value_of(trace, amplitudes, test.right)?;
     Some(compares(test.comparison, left, right))
+}
+
+// The same of a condition on two terms: their numbers are compared as they are.
+fn meets_terms(
+    trace: &TraceView<'_>,
+    comparison: Comparison,
+    left: Term,
+    right: Term,
+) -> Option<bool>
+    ensures { result ≡ option_and_then (λ x. option_map (λ y. admits_order comparison (int_cmp x y))
+        (number_of_term (head_of trace.now) (bytes_of trace.now) right))
+        (number_of_term (head_of trace.now) (bytes_of trace.now) left) }
+{
+    let number = term_in(trace, left)?;
+    let other = term_in(trace, right)?;
+    Some(admits(comparison, number.cmp(&other)))
 }

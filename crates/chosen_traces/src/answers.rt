@@ -34,8 +34,8 @@ use trace_record::PackedRecord;
 /// What is asked of the traces that are chosen. Looks once at each trace of the range to choose
 /// them, where the records do not tell all numbers of the conditions, and then once at most at each
 /// of them; at none where the range is refused or a field has no place. Takes memory. Refused: E01,
-/// else E02, E12 of a condition, E03, and E11 in the place of any of these. On disk also where a
-/// trace could not be read (E14, E15).
+/// else E02, E12 of a condition, E03, then E12 of what is asked of the traces, and E11 in the place
+/// of any of these. On disk also where a trace could not be read (E14, E15).
 pub fn chosen_answer(
     alloc: Global,
     overlay: &mut Overlay<PackedRecord>,

@@ -28,7 +28,7 @@ pub struct LastDifferences {
 }
 
 impl LastDifferences {
-    /// None that is known.
+    /// None yet: a difference of 0 stands in the places of both.
     pub fn new() -> LastDifferences {
         let none = Ratio::whole(0);
         let fractions = LastFractions {
@@ -42,7 +42,8 @@ impl LastDifferences {
     }
 }
 
-/// How far the second position lies above the first, exactly.
+/// How far the second position lies above the first, exactly, whatever came last. It then is what
+/// came last.
 pub fn difference_between(from: &Position, to: &Position, last: &mut LastDifferences) -> Difference
     requires from_x { FitsCoordinate from.now.x }
     requires from_y { FitsCoordinate from.now.y }

@@ -19,8 +19,8 @@ pub fn is_far(difference: &Difference, other: &Difference) -> bool
 }
 
 /// Whether a difference is a jump where another is the usual one: it is far from the usual one and
-/// from those in front of it and behind it along its line, those that there are. None is where the
-/// usual one is none.
+/// from those in front of it and behind it along its line, those that there are. No difference is a
+/// jump where the usual one is 0 in x and in y.
 pub fn is_jump(
     usual: &Difference,
     before: &Option<Difference>,

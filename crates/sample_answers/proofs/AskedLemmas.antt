@@ -10,7 +10,8 @@ use Rattle.frame_cut.specs.declared.file_head.Head.{Head}
 use Rattle.frame_cut.specs.Frames.{sample_count}
 use Rattle.trace_view.specs.Values.{bytes_of_sample, sample_of}
 use Rattle.bench_rules.specs.declared.sample_range.SampleRange.{SampleRange}
-use Rattle.bench_rules.specs.Sections.{is_stepped, numbers_behind, samples_behind}
+use Rattle.bench_rules.specs.Sections.{is_stepped}
+use Rattle.sample_answers.specs.Asked.{numbers_behind, samples_behind}
 
 -- ---- the numbers
 

@@ -1,6 +1,7 @@
 // The samples of one trace that a range names.
 ghost use Rattle.std.specs.Prelude.{◌≡◌};
 
+use crate::plain::{PlainSamples, sample_of_trace};
 use bench_rules::SampleRange;
 use std::marker::Model;
 use trace_view::TraceView;
@@ -10,6 +11,7 @@ use trace_view::TraceView;
 #[derive(Drop)]
 pub struct AskedSamples<'a> {
     trace: TraceView<'a>,
+    plain: Option<PlainSamples<'a>>,
     range: SampleRange,
     next: u64,
 }
@@ -27,15 +29,15 @@ impl<'a> Model for AskedSamples<'a> {
 
 impl<'a> AskedSamples<'a> {
     ghost use Rattle.trace_view.specs.Shown.{bytes_of, head_of};
-    ghost use Rattle.bench_rules.specs.Sections.{samples_behind};
+    ghost use Rattle.bench_rules.specs.Sections.{samples_in_range};
 
     /// Those of the trace that is shown; none where its samples have no values. Takes no memory.
     pub fn new(trace: &TraceView<'a>, range: SampleRange) -> AskedSamples<'a>
-        ensures { result ≡ samples_behind (head_of trace.now) range range.from
-            (bytes_of trace.now) }
+        ensures { result ≡ samples_in_range (head_of trace.now) range (bytes_of trace.now) }
     {
         AskedSamples {
             trace: *trace,
+            plain: PlainSamples::of(trace),
             range,
             next: u64::from(range.from),
         }
@@ -56,7 +58,7 @@ impl<'a> Iterator for AskedSamples<'a> {
         if self.next > u64::from(self.range.to) {
             return None;
         }
-        let sample = self.trace.sample(self.next as u32)?;
+        let sample = sample_of_trace(&self.trace, &self.plain, self.next as u32)?;
         self.next += u64::from(self.range.step.max(1));
         Some(sample)
     }

@@ -12,6 +12,7 @@
 mod among;
 mod asked;
 mod of_trace;
+mod plain;
 
 pub use crate::among::stats_among;
 pub use crate::asked::AskedSamples;

@@ -22,7 +22,8 @@ pub enum Fault {
     Query(AskFault),
 }
 
-/// Why the line of this reply is refused; `None` where it is not. Takes no memory.
+/// Why the line of this reply is refused; `None` where it is not, and of samples of many traces,
+/// of which a trace that cannot be read is found while they are printed. Takes no memory.
 pub fn fault_of(reply: &Reply) -> Option<Fault>
     ensures { is_some result ≡ (printed_of reply.now).is_refusal }
 {

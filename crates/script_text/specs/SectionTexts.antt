@@ -7,7 +7,7 @@ use Rattle.bench_rules.specs.declared.ask_fault.AskFault.{AskFault}
 use Rattle.script_text.specs.RefusalTexts.{ask_fault_text, refused_line}
 use Rattle.script_text.specs.Texts.{with_blanks, with_line_end}
 
--- the line that a section begins with: how many rows follow
+-- the line that a section begins with: of how many traces it is
 abbrev pub section_head : ℕ → List ℕ
 section_head n = with_line_end (with_blanks (codes "samples" ∷ decimal n ∷ []))
 

@@ -1,6 +1,8 @@
 //! What is printed for each line of a script, and how a run ends.
 //!
-//! [`push_reply`] prints what a line gives, through an [`OutBuffer`], and takes no memory.
+//! [`push_reply`] prints what a line gives, through an [`OutBuffer`], and takes no memory; but of
+//! samples of many traces, which are looked at while they are printed, [`push_section_head`] and
+//! [`push_section_row`] print the lines, and [`section_end`] is what stands behind them.
 //! [`RunEnd`] is the whole report of a run.
 #![tactic(auto)]
 

@@ -34,7 +34,8 @@ pub enum Reply {
     Asked(Result<Answer, AskFault>),
     /// The line is a query that tells of samples that are floats.
     Floats(FloatAnswer),
-    /// The line is a query for samples, which are looked at while they are printed.
+    /// The line is a query for samples of many traces, and has this section for its answer: who has
+    /// the traces prints it, line by line ([`crate::push_section_row`]).
     Section(Section),
 }
 

@@ -51,6 +51,8 @@ test:
 	@test -x $(SHIPPED) || { echo 'There is no shipped program $(SHIPPED): make build, then make dist.'; exit 1; }
 	bash tests/lines.sh
 	python3 tests/edits_fit.py
+	python3 tests/crates_named.py
+	bash tests/by_hand.sh
 	cd dist && sha256sum -c SHA256SUMS
 	rm -f $(BUILT)
 	bash tests/gate.sh $(BUILT) $(SHIPPED)

@@ -5,8 +5,8 @@ import threading
 
 from running import Ended
 
-# an answer that takes longer does not come
-LONGEST = 60
+# an answer that takes longer does not come, also where other programs hold the processors
+LONGEST = 600
 
 
 class Session:

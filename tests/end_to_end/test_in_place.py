@@ -11,7 +11,7 @@ import pytest
 
 from files import changed, content
 from repairs import CHANGED, CUT_OFF, JOURNAL, NOTHING_SAVED, OWN, SCRIPT, alone, anew, begin, is_locked, leaves_journal
-from running import same
+from running import LONGEST, same
 
 
 @pytest.fixture
@@ -371,7 +371,7 @@ def test_file_is_changed_meanwhile(begun, waiting, change):
     assert (left is None) == (change is removed)
     gate.write(SCRIPT.encode())
     gate.close()
-    _, errors = running.communicate(timeout=60)
+    _, errors = running.communicate(timeout=LONGEST)
     assert (running.returncode, errors.decode().splitlines()[0]) == (4, CHANGED)
     # FILE is as the other program left it, and nothing is beside it
     assert begun.names("room") == ([] if left is None else ["o.sgy"])
@@ -390,7 +390,7 @@ def test_two_at_once(begun, waiting):
     assert (ended.status, ended.lines()[-1]) == (4, f"segywb: {OWN}: a repair of it is under way; wait for its end")
     gate.write(SCRIPT.encode())
     gate.close()
-    _, errors = running.communicate(timeout=60)
+    _, errors = running.communicate(timeout=LONGEST)
     assert (running.returncode, errors) == (0, b"")
     assert same(begun.get(OWN), begun.get("whole.sgy"))
     assert alone(begun)

@@ -10,7 +10,7 @@ from pathlib import Path
 import pytest
 
 from files import changed, content, float_line
-from running import same
+from running import LONGEST, same
 from sessions import Session
 
 TESTS = Path(__file__).resolve().parents[1]
@@ -148,6 +148,44 @@ def test_a_read_fails(room, fail_device, call):
     else:
         assert (ended.status, room.has("o.sgy")) == (4, False)
         assert "segywb: s.sgy: cannot be read again: o.sgy is as it was" in ended.lines()
+
+
+# ---- the file is longer or shorter than its size said: it grew meanwhile, by whole traces, or a part of it went
+LENGTH = 61680
+
+
+def of_large_traces(count):
+    """A file of this many traces of 61,680 bytes: 30,720 samples of 16 bits each, all 0."""
+    head = changed(content("s.sgy")[:3600], "3220 7800")
+    trace = changed(content("s.sgy")[3600:3840], "114 7800") + bytes(2 * 0x7800)
+    assert len(trace) == LENGTH
+    return head + trace * count
+
+
+@pytest.mark.parametrize("traces, more", [(3, -1), (3, LENGTH), (3, -LENGTH), (197, LENGTH), (197, 197 * LENGTH)])
+def test_a_file_of_another_size_than_was_told(room, compiled, traces, more):
+    made = of_large_traces(traces)
+    room.put("f.sgy", made)
+    environment = {"LD_PRELOAD": str(compiled("told_size", "-shared")), "SIZE": str(len(made)), "TOLD": str(len(made) - more)}
+    ended = room.ask("f.sgy", "count\n", "--on-disk", "--out", "o.sgy", environment=environment)
+    assert (ended.status, ended.answers, room.has("o.sgy")) == (3, AT_LOAD, False)
+    as_it_is = room.ask("f.sgy", "count\n", "--on-disk", environment=environment | {"SIZE": "0"})
+    assert (as_it_is.status, as_it_is.answers) == (0, b"traces %d\n" % traces)
+
+
+# ---- sizes whose traces end before and behind the end of what is read at once
+@pytest.mark.parametrize("traces", [1, 2, 4, 5, 17, 34, 85, 196, 197, 198])
+def test_large_traces_that_end_anywhere(room, fail_device, traces):
+    made = of_large_traces(traces)
+    room.put("f.sgy", made)
+    script = f"count\nsample {traces} 30719\nset {traces} inline 77\n"
+    answers = b"traces %d\nvalue 0\nok\n" % traces
+    wanted = changed(made, f"{len(made) - LENGTH + 188} {77:08x}")
+    library = fail_device.partition("=")[2]
+    for environment in ({}, {"LD_PRELOAD": library, "DEVICE": "f.sgy", "STEP": "50001"}):
+        ended = room.ask("f.sgy", script, "--on-disk", "--out", "o.sgy", environment=environment)
+        assert (ended.status, ended.answers) == (0, answers)
+        assert same(room.get("o.sgy"), wanted)
 
 
 # a statistic of floats looks at its trace, and one of whole numbers at none; totals look at none
@@ -336,7 +374,7 @@ def test_changed_while_it_is_copied(room):
             file.write(b"\1")
         while copy.read(1 << 20):
             pass
-    _, errors = running.communicate(timeout=60)
+    _, errors = running.communicate(timeout=LONGEST)
     assert running.returncode == 4
     assert any(line.startswith("segywb: copied.sgy: what was saved may be of two files; ") for line in errors.decode().splitlines())
 

@@ -11,7 +11,7 @@ import time
 import pytest
 
 from files import content
-from running import same
+from running import LONGEST, same
 
 SCRIPT = "set 2 @189:4 7\nget 2 @189:4\n"
 ANSWERS = b"ok\nvalue 7\n"
@@ -495,7 +495,7 @@ def test_file_is_changed_meanwhile(begun, change, saves):
     with open(begun.path("gate"), "wb") as gate:
         change(begun)
         gate.write(SCRIPT.encode())
-    _, errors = running.communicate(timeout=60)
+    _, errors = running.communicate(timeout=LONGEST)
     assert running.returncode == (4 if saves else 0), errors
     assert errors.decode().splitlines()[0] == CHANGED
     assert same(begun.get(OUT), content("s.sgy"))

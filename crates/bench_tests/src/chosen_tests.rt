@@ -5,6 +5,7 @@ use bench_core::{
     Answer, AskFault, Bench, Chosen, ChosenEdit, ChosenQuery, Comparison, Condition, Edit, Field,
     Items, Operand, Query, Refusal, SampleRange, Side, Text,
 };
+use room::Room;
 use std::alloc::{AllocError, Global};
 use std::process::Abort;
 use std::test::Fail;
@@ -88,7 +89,7 @@ fn listed(asked: &Result<Answer, AskFault>) -> Option<usize> {
 
 fn swap_and_delete(rt: &impl Abort, alloc: Global, bench: &mut Bench) {
     let stats = Query::OfChosen(behind(alloc), ChosenQuery::Stats);
-    assert!(rt; listed(&bench.ask(alloc, &stats)) == Some(2));
+    assert!(rt; listed(&bench.ask(&mut Room::new(alloc), &stats)) == Some(2));
     let swap = ChosenEdit::Swap(crossline(), signed(0, 189, 4));
     assert!(rt; meets(bench, alloc, Edit::OfChosen(behind(alloc), swap), None));
     assert!(rt; has(bench, alloc, 3, crossline(), 10));
@@ -102,7 +103,11 @@ fn swap_and_delete(rt: &impl Abort, alloc: Global, bench: &mut Bench) {
         )
     );
     assert!(rt;
-        listed(&bench.ask(alloc, &Query::OfChosen(all(alloc), ChosenQuery::Stats))).is_none()
+        listed(&bench.ask(
+            &mut Room::new(alloc),
+            &Query::OfChosen(all(alloc), ChosenQuery::Stats)
+        ))
+        .is_none()
     );
 }
 
@@ -142,7 +147,10 @@ fn count_below_zero(alloc: Global, bench: &mut Bench, other: Field) -> Option<u3
         traces: Some((1, 3)),
         conditions,
     };
-    match bench.ask(alloc, &Query::OfChosen(chosen, ChosenQuery::Count)) {
+    match bench.ask(
+        &mut Room::new(alloc),
+        &Query::OfChosen(chosen, ChosenQuery::Count),
+    ) {
         Ok(Answer::Chosen(count)) => Some(count),
         _ => None,
     }
@@ -185,7 +193,7 @@ fn ask_for_samples(rt: &impl Abort, alloc: Global, bench: &mut Bench) {
     };
     let before = bench.volume().looks();
     let query = Query::OfChosen(behind(alloc), ChosenQuery::Samples(range));
-    assert!(rt; told(&bench.ask(alloc, &query)) == Some((2, 1)));
+    assert!(rt; told(&bench.ask(&mut Room::new(alloc), &query)) == Some((2, 1)));
     assert!(rt; bench.volume().looks() == before);
     assert!(rt; matches!(bench.look(2), Ok(Some(_))));
     assert!(rt; matches!(bench.look(4), Ok(None)));

@@ -5,6 +5,7 @@ use crate::tests::{fails, meets, signed};
 use bench_core::{Answer, AskFault, Bench, Edit, Extremes, Field, Items, Query};
 use field_map::Place;
 use num_order::Kind;
+use room::Room;
 use std::alloc::Global;
 use std::process::Abort;
 use std::test::Fail;
@@ -30,7 +31,11 @@ fn tabulates(bench: &mut Bench, alloc: Global) -> bool {
         return false;
     };
     let query = Query::Table(2, 3, Items::new(fields));
-    are_rows(&bench.ask(alloc, &query), [2, 22, 0], [3, 23, 0])
+    are_rows(
+        &bench.ask(&mut Room::new(alloc), &query),
+        [2, 22, 0],
+        [3, 23, 0],
+    )
 }
 
 // The extremes that are shown of a name.
@@ -48,7 +53,7 @@ fn extremes_of(asked: &Result<Answer, AskFault>, name: &str) -> Option<Extremes>
 
 // Whether these extremes are shown of a name, or none.
 fn spans(bench: &mut Bench, alloc: Global, name: &str, expected: Option<Extremes>) -> bool {
-    let asked = bench.ask(alloc, &Query::Extremes(1, 3));
+    let asked = bench.ask(&mut Room::new(alloc), &Query::Extremes(1, 3));
     asked.is_ok() && extremes_of(&asked, name) == expected
 }
 
@@ -67,7 +72,7 @@ fn shown_of(asked: &Result<Answer, AskFault>, name: &str) -> Option<i128> {
 
 // Whether the header of trace 2 shows this number of a name, or none.
 fn heads(bench: &mut Bench, alloc: Global, name: &str, expected: Option<i128>) -> bool {
-    let asked = bench.ask(alloc, &Query::Header(2));
+    let asked = bench.ask(&mut Room::new(alloc), &Query::Header(2));
     asked.is_ok() && shown_of(&asked, name) == expected
 }
 
@@ -94,7 +99,7 @@ fn are_found(asked: &Result<Answer, AskFault>, expected: &[u32]) -> bool {
 // Whether the traces with a crossline from low to high stand there.
 fn finds(bench: &mut Bench, alloc: Global, (low, high): (i128, i128), expected: &[u32]) -> bool {
     let query = Query::Find(1, 3, signed(0, 193, 4), low, high);
-    are_found(&bench.ask(alloc, &query), expected)
+    are_found(&bench.ask(&mut Room::new(alloc), &query), expected)
 }
 
 fn ask_before(rt: &impl Abort, alloc: Global, bench: &mut Bench) {
@@ -186,7 +191,7 @@ fn refuse_ranges(rt: &impl Abort, alloc: Global, bench: &mut Bench) {
     assert!(rt; fails(bench, alloc, Query::Header(0), AskFault::NoTrace(0, 3)));
     assert!(rt; fails(bench, alloc, Query::Extremes(4, 4), AskFault::NoTrace(4, 3)));
     assert!(rt; fails(bench, alloc, Query::Lines(1), AskFault::NoPlace));
-    assert!(rt; are_lines(&bench.ask(alloc, &Query::Lines(0))));
+    assert!(rt; are_lines(&bench.ask(&mut Room::new(alloc), &Query::Lines(0))));
 }
 
 #[test]

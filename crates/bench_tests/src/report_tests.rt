@@ -6,6 +6,7 @@ use frame_cut::Reading;
 use key_counts::Ratio;
 use num_order::Kind;
 use range_stats::Quantity;
+use room::Room;
 use std::alloc::Global;
 use std::process::Abort;
 use std::test::Fail;
@@ -49,7 +50,7 @@ fn is_fold(asked: &Result<Answer, AskFault>, expected: u64) -> bool {
 // Whether so many traces lie in the cell, by the query and by the grid that is lent.
 fn folds(bench: &mut Bench, alloc: Global, cell: (i128, i128), expected: u64) -> bool {
     let lent = bench.volume().grid().fold(cell.0, cell.1);
-    let asked = bench.ask(alloc, &Query::Fold(cell.0, cell.1));
+    let asked = bench.ask(&mut Room::new(alloc), &Query::Fold(cell.0, cell.1));
     lent == expected && is_fold(&asked, expected)
 }
 
@@ -69,7 +70,7 @@ fn listed(asked: &Result<Answer, AskFault>) -> Option<usize> {
 
 // Whether the answer lists so many items.
 fn lists(bench: &mut Bench, alloc: Global, query: Query, expected: usize) -> bool {
-    listed(&bench.ask(alloc, &query)) == Some(expected)
+    listed(&bench.ask(&mut Room::new(alloc), &query)) == Some(expected)
 }
 
 // The least, greatest, sum and number of samples that answer.
@@ -84,12 +85,12 @@ fn statistics(asked: &Result<Answer, AskFault>) -> Option<[i128; 4]> {
 
 // Whether these are the least, greatest, sum and number of the samples of trace p.
 fn sums(bench: &mut Bench, alloc: Global, p: u32, expected: [i128; 4]) -> bool {
-    statistics(&bench.ask(alloc, &Query::Stat(p))) == Some(expected)
+    statistics(&bench.ask(&mut Room::new(alloc), &Query::Stat(p))) == Some(expected)
 }
 
 // Whether these are the least, greatest, sum and number of the samples of all traces.
 fn sums_all(bench: &mut Bench, alloc: Global, expected: [i128; 4]) -> bool {
-    statistics(&bench.ask(alloc, &Query::Totals)) == Some(expected)
+    statistics(&bench.ask(&mut Room::new(alloc), &Query::Totals)) == Some(expected)
 }
 
 // Whether these whole numbers are the ends of the range that answers.
@@ -108,7 +109,7 @@ fn answer_reports(rt: &impl Abort, alloc: Global, bench: &mut Bench) {
     assert!(rt; sums(bench, alloc, 2, [3, 4, 7, 2]));
     assert!(rt; sums_all(bench, alloc, [-5, 6, 7, 6]));
     let crosslines = Query::Range(Quantity::Crossline);
-    assert!(rt; are_ends(&bench.ask(alloc, &crosslines), 21, 23));
+    assert!(rt; are_ends(&bench.ask(&mut Room::new(alloc), &crosslines), 21, 23));
 }
 
 #[test]

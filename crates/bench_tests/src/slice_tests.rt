@@ -5,6 +5,7 @@ use bench_core::{Answer, AskFault, Bench, Edit, Field, Query, Refusal, Text};
 use bench_rules::Row;
 use field_map::Place;
 use num_order::Kind;
+use room::Room;
 use std::alloc::{AllocError, Global};
 use std::process::Abort;
 use std::test::Fail;
@@ -20,7 +21,7 @@ fn rows(asked: &Result<Answer, AskFault>) -> Option<usize> {
 // How many looks the answer to slice k takes, where it has so many rows.
 fn looks_for(bench: &mut Bench, alloc: Global, k: u32, expected: usize) -> Option<u64> {
     let before = bench.volume().looks();
-    let found = rows(&bench.ask(alloc, &Query::Slice(k)));
+    let found = rows(&bench.ask(&mut Room::new(alloc), &Query::Slice(k)));
     let looks = bench.volume().looks().checked_sub(before);
     if found == Some(expected) { looks } else { None }
 }
@@ -176,8 +177,8 @@ fn are_rows(asked: &Result<Answer, AskFault>) -> bool {
 }
 
 fn answer_again(rt: &impl Abort, alloc: Global, bench: &mut Bench) {
-    assert!(rt; are_rows(&bench.ask(alloc, &Query::Slice(1))));
-    assert!(rt; are_rows(&bench.ask(alloc, &Query::Slice(1))));
+    assert!(rt; are_rows(&bench.ask(&mut Room::new(alloc), &Query::Slice(1))));
+    assert!(rt; are_rows(&bench.ask(&mut Room::new(alloc), &Query::Slice(1))));
 }
 
 // A kept slice gives the rows of the first answer.

@@ -8,6 +8,7 @@ use edit_overlay::SaveFault;
 use field_map::{MapFault, Place};
 use frame_cut::{Limits, Reading};
 use num_order::Kind;
+use room::Room;
 use std::alloc::{AllocError, Global};
 use std::process::Abort;
 use std::test::Fail;
@@ -55,7 +56,7 @@ pub(crate) fn on_file(
 {
     let limits = Limits::new(room.0, room.1).ok_or("limits")?;
     let mut reader = Source::new(StepReader::new(file, 1000, u64::MAX));
-    let mut bench = Bench::load(alloc, &mut reader, reading, limits)?;
+    let mut bench = Bench::load(&mut Room::new(alloc), &mut reader, reading, limits)?;
     ask(&mut bench);
     bench.close();
     Ok(())
@@ -107,7 +108,7 @@ pub(crate) fn renumber(a: u32, b: u32, field: Field, first: i128, step: i128) ->
 
 // The refusal of an edit, if it met one.
 pub(crate) fn refusal(bench: &mut Bench, alloc: Global, edit: Edit) -> Option<Refusal> {
-    bench.apply(alloc, &edit).err()
+    bench.apply(&mut Room::new(alloc), &edit).err()
 }
 
 // Whether the edit meets this refusal, or none where none is expected.
@@ -122,7 +123,7 @@ pub(crate) fn meets(
 
 // The fault of a query, if it met one.
 pub(crate) fn fault(bench: &mut Bench, alloc: Global, query: Query) -> Option<AskFault> {
-    bench.ask(alloc, &query).err()
+    bench.ask(&mut Room::new(alloc), &query).err()
 }
 
 // Whether the query meets this fault.
@@ -144,12 +145,12 @@ fn number_in(asked: &Result<Answer, AskFault>) -> Option<i128> {
 
 // Whether this number answers a query.
 fn tells(bench: &mut Bench, alloc: Global, query: Query, expected: i128) -> bool {
-    number_in(&bench.ask(alloc, &query)) == Some(expected)
+    number_in(&bench.ask(&mut Room::new(alloc), &query)) == Some(expected)
 }
 
 // The number in the field of trace p, if it has one.
 pub(crate) fn value(bench: &mut Bench, alloc: Global, p: u32, field: Field) -> Option<i128> {
-    number_in(&bench.ask(alloc, &Query::Get(p, field)))
+    number_in(&bench.ask(&mut Room::new(alloc), &Query::Get(p, field)))
 }
 
 // Whether the field of trace p has this number.
@@ -269,8 +270,8 @@ fn is_info(asked: &Result<Answer, AskFault>) -> bool {
 }
 
 fn tell_counts(rt: &impl Abort, alloc: Global, bench: &mut Bench) {
-    assert!(rt; is_count(&bench.ask(alloc, &Query::Count)));
-    assert!(rt; is_info(&bench.ask(alloc, &Query::Info)));
+    assert!(rt; is_count(&bench.ask(&mut Room::new(alloc), &Query::Count)));
+    assert!(rt; is_info(&bench.ask(&mut Room::new(alloc), &Query::Info)));
 }
 
 #[test]
@@ -556,9 +557,14 @@ fn has_no_stanzas(asked: &Result<Answer, AskFault>) -> bool {
 }
 
 fn set_lines(rt: &impl Abort, alloc: Global, bench: &mut Bench) {
-    assert!(rt; is_ascii(&bench.ask(alloc, &Query::Code(0))));
+    assert!(rt; is_ascii(&bench.ask(&mut Room::new(alloc), &Query::Code(0))));
     assert!(rt; sets_line(bench, alloc, 2, "C 2 LINE", None));
-    assert!(rt; begins(&bench.ask(alloc, &Query::Line(0, 2)), "C 2 LINE "));
+    assert!(rt;
+        begins(
+            &bench.ask(&mut Room::new(alloc), &Query::Line(0, 2)),
+            "C 2 LINE "
+        )
+    );
 }
 
 fn refuse_lines(rt: &impl Abort, alloc: Global, bench: &mut Bench) {
@@ -573,7 +579,7 @@ fn refuse_lines(rt: &impl Abort, alloc: Global, bench: &mut Bench) {
 fn write_and_show(rt: &impl Abort, alloc: Global, bench: &mut Bench) {
     set_lines(rt, alloc, bench);
     refuse_lines(rt, alloc, bench);
-    assert!(rt; has_no_stanzas(&bench.ask(alloc, &Query::Stanzas)));
+    assert!(rt; has_no_stanzas(&bench.ask(&mut Room::new(alloc), &Query::Stanzas)));
 }
 
 #[test]
@@ -627,7 +633,7 @@ fn bind_mine(rt: &impl Abort, alloc: Global, bench: &mut Bench) {
     assert!(rt; has_named(bench, alloc, 1, "mine", 10));
     let bad = Some(Refusal::Map(MapFault::BadName));
     assert!(rt; binds(bench, alloc, "bad-name", bad));
-    assert!(rt; are_seven_with_mine_last(&bench.ask(alloc, &Query::Fields)));
+    assert!(rt; are_seven_with_mine_last(&bench.ask(&mut Room::new(alloc), &Query::Fields)));
 }
 
 fn bind_and_unbind(rt: &impl Abort, alloc: Global, bench: &mut Bench) {

@@ -1,6 +1,7 @@
 // Values from outside: bytes of code page 037, and stanzas of the standard's form.
 ghost use Rattle.std.specs.Prelude.{◌≤◌, length};
 
+use room::Room;
 use std::alloc::Global;
 use std::process::Abort;
 use std::test::Fail;
@@ -39,15 +40,20 @@ fn expect_line(
     requires first { 1 ≤ number }
     requires last { number ≤ 40 }
 {
-    let text = line(alloc, block, number)?;
+    let text = line(&mut Room::new(alloc), block, number)?;
     assert_eq!(rt; text.as_str().trim_end(), expected);
     Ok(())
 }
 
 // Asserts that the first line is 80 bytes long, and that the last one has blanks before its text.
 fn expect_other_lines(rt: &impl Abort, alloc: Global, block: &[u8; 3200]) -> Result<(), Fail> {
-    assert_eq!(rt; line(alloc, block, 1)?.len(), 80);
-    assert_eq!(rt; line(alloc, block, 40)?.as_str().trim_start(), "*");
+    assert_eq!(rt; line(&mut Room::new(alloc), block, 1)?.len(), 80);
+    assert_eq!(rt;
+        line(&mut Room::new(alloc), block, 40)?
+            .as_str()
+            .trim_start(),
+        "*"
+    );
     Ok(())
 }
 
@@ -139,7 +145,7 @@ fn expect_stanzas(
     block: &[u8; 3200],
     expected: &[&str],
 ) -> Result<(), Fail> {
-    let names = stanzas(alloc, block)?;
+    let names = stanzas(&mut Room::new(alloc), block)?;
     assert!(rt; are(&names, expected));
     Ok(())
 }

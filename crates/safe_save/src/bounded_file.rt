@@ -15,7 +15,7 @@ const TOO_LARGE: i32 = 27;
 
 /// A file that is being written, of at most `limit` bytes: a write behind the system's own limit
 /// would end the process by a signal. A write that a signal interrupts is made again. A clause sees
-/// it as the file inside, the limit, and how many bytes it took, which are never more.
+/// it as the file inside, the limit, and how many bytes it took: never more than the limit.
 #[derive(Drop)]
 pub struct BoundedFile<W> {
     inner: W,

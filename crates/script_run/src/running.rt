@@ -19,6 +19,7 @@ use bench_core::Bench;
 use bench_rules::{Answer, AskFault, ChosenQuery, Query};
 use device_io::{Sink, WriteFault};
 use float_codes::FloatFormat;
+use room::Room;
 use script_hints::{Fault, Notes, fault_of};
 use script_text::{OutBuffer, Reply};
 use script_words::{Command, Lines, parse_line};
@@ -141,7 +142,7 @@ fn run_command(alloc: Global, bench: &mut Bench, command: &Command) -> Reply
     ensures loaded { bench.new.loaded ≡ bench.old.loaded }
 {
     match command {
-        Command::Apply(edit) => Reply::Edited(bench.apply(alloc, edit)),
+        Command::Apply(edit) => Reply::Edited(bench.apply(&mut Room::new(alloc), edit)),
         Command::Ask(query) => answered(alloc, bench, query),
     }
 }
@@ -157,10 +158,10 @@ fn answered(alloc: Global, bench: &mut Bench, query: &Query) -> Reply
     ensures loaded { bench.new.loaded ≡ bench.old.loaded }
 {
     if asks_for_section(query) {
-        return section_reply(bench.ask(alloc, query));
+        return section_reply(bench.ask(&mut Room::new(alloc), query));
     }
     let floats = floats_of(bench, query);
-    shown_reply(alloc, floats, bench.ask(alloc, query))
+    shown_reply(alloc, floats, bench.ask(&mut Room::new(alloc), query))
 }
 
 // Whether the query is for a section.

@@ -1,15 +1,15 @@
 // Pairs of cells that are neighbours on a line.
-ghost use Rattle.std.specs.Prelude.{◌≡◌, ◌<◌, ◌≤◌, ◌+ℤ◌, ◌-ℤ◌, ◌&&◌, IfOk, IfErr, IfSome, Some, None, length, slice_index_or};
+ghost use Rattle.std.specs.Prelude.{◌≡◌, ◌<◌, ◌≤◌, ◌+ℤ◌, ◌-ℤ◌, ◌&&◌, IfOk, IfErr, IfSome, Some, None, length, slice_index_or, IsErr};
 ghost use Rattle.std.specs.Ordering.{int_eq};
+ghost use Rattle.room.specs.Refusals.{Rises};
 ghost use Rattle.position_differences.specs.Commonest.{AreCounted};
 ghost use Rattle.survey_cells.specs.Held.{HeldRise};
 ghost use Rattle.survey_cells.specs.Neighbours.{held_at, held_beyond, difference_in, difference_beyond as difference_beyond_of, differences, neighbours_from as neighbours_from_of, difference_ahead as difference_ahead_of};
 
 use crate::cells::SurveyCell;
-use cell_positions::OutOfMemory;
 use key_counts::Counts;
 use position_differences::{Difference, LastDifferences, difference_between};
-use std::alloc::Global;
+use room::{OutOfMemory, Room};
 
 // Two cells that are neighbours on a line, and how far the second one's position lies above the
 // first one's.
@@ -50,7 +50,7 @@ impl Walk {
 // The pairs of cells that lie so many inlines and crosslines apart. Takes memory for the
 // differences that occur.
 pub(crate) fn count_differences(
-    alloc: Global,
+    room: &mut Room,
     cells: &[SurveyCell],
     apart: (i64, i64),
 ) -> Result<Walked, OutOfMemory>
@@ -59,13 +59,14 @@ pub(crate) fn count_differences(
     ensures few { IfOk result (λ walked. walked.pairs ≤ length cells.now) }
     ensures counts { IfOk result (λ walked. AreCounted walked.counts
         (differences cells.now apart)) }
+    ensures memory { Rises (IsErr result) room.old room.new }
 {
     let mut pairs = 0;
-    let mut counts = Counts::new(alloc);
+    let mut counts = Counts::new(room.alloc());
     let mut walk = Walk::from(0);
     for cell in cells {
         if let Some(difference) = difference_beyond(cells, apart, cell, &mut walk) {
-            counts.raise(difference)?;
+            counts.raise(room, difference)?;
             pairs += 1;
         }
     }

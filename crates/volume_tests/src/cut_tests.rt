@@ -10,6 +10,7 @@ use frame_cut::{
     sample_count, trace_length,
 };
 use num_order::Order;
+use room::Room;
 use sample_codes::{Format, IntegerFormat, OpaqueFormat};
 use std::alloc::Global;
 use std::process::Abort;
@@ -56,7 +57,7 @@ fn traces_by(
     reading: Reading,
     limits: Limits,
 ) -> Result<u32, LoadFault> {
-    match cut(alloc, bytes, reading, limits) {
+    match cut(&mut Room::new(alloc), bytes, reading, limits) {
         Ok(cut) => Ok(cut.count()),
         Err(fault) => Err(fault),
     }
@@ -93,7 +94,7 @@ fn lie_at(extents: &[Extent], places: &[(u64, u64)]) -> bool {
 
 // Cuts the file into traces at these places, with these lengths.
 fn cuts_at(rt: &impl Abort, alloc: Global, file: &[u8], places: &[(u64, u64)]) -> Result<(), Fail> {
-    let cut = cut(alloc, file, Reading::as_written(), wide(rt))?;
+    let cut = cut(&mut Room::new(alloc), file, Reading::as_written(), wide(rt))?;
     expect_places(rt, &cut, file, places)?;
     assert!(rt; lie_at(&cut.into_extents(), places));
     Ok(())

@@ -11,6 +11,7 @@ use crate::tables::volume_of;
 use device_io::{Sink, Source, StepReader};
 use edit_overlay::{Overlay, SaveFault};
 use frame_cut::{Limits, Reading};
+use room::Room;
 use std::alloc::{AllocError, Global};
 use std::process::Abort;
 use std::test::Fail;
@@ -176,7 +177,7 @@ fn prepare(
     if !may_put(volume, p, at, bytes) {
         return Err(Fail::from("no place for the bytes"));
     }
-    volume.prepare_put(alloc, p, at, bytes)?;
+    volume.prepare_put(&mut Room::new(alloc), p, at, bytes)?;
     Ok(())
 }
 
@@ -193,7 +194,7 @@ fn prepare_over_two(
     if !may_put(volume, 2, at, &bytes[2..]) {
         return Err(Fail::from("no place for the bytes"));
     }
-    volume.prepare_put_each(alloc, 1, at, 2, bytes)?;
+    volume.prepare_put_each(&mut Room::new(alloc), 1, at, 2, bytes)?;
     Ok(())
 }
 
@@ -215,7 +216,7 @@ fn prepare_move(alloc: Global, volume: &mut Overlay<u32>, a: u32, b: u32) -> Res
     if a == 0 || a > count || b == 0 || b > count {
         return Err(Fail::from("no such trace"));
     }
-    volume.prepare_move(alloc, a, b)?;
+    volume.prepare_move(&mut Room::new(alloc), a, b)?;
     Ok(())
 }
 
@@ -236,7 +237,12 @@ fn insert(
     if !is_trace(&volume.head(), bytes) {
         return Err(Fail::from("no trace"));
     }
-    volume.insert(alloc, p, Vec::from_slice(alloc, bytes)?, payload)?;
+    volume.insert(
+        &mut Room::new(alloc),
+        p,
+        Vec::from_slice(alloc, bytes)?,
+        payload,
+    )?;
     Ok(())
 }
 
@@ -351,7 +357,7 @@ fn shows_next(
         return Err(Fail::from("no trace more"));
     };
     let shown = has_bytes(&view, expected);
-    loading.push(alloc, payload)?;
+    loading.push(&mut Room::new(alloc), payload)?;
     Ok(shown)
 }
 
@@ -382,7 +388,12 @@ fn loading_in_steps(rt: &impl Abort, alloc: Global, file: &[u8]) -> Result<Loadi
 {
     let limits = limits()?;
     let mut reader = Source::new(StepReader::new(file, 1, u64::MAX));
-    let loading = Loading::load(alloc, &mut reader, Reading::as_written(), limits);
+    let loading = Loading::load(
+        &mut Room::new(alloc),
+        &mut reader,
+        Reading::as_written(),
+        limits,
+    );
     assert_eq!(rt; reader.failures(), 0);
     Ok(loading?)
 }

@@ -1,6 +1,7 @@
 // Coordinates under their scalars, and counts of keys, with values worked by hand. A test makes
 // what it needs and lends it.
 use key_counts::{Counts, OutOfMemory, Ratio};
+use room::Room;
 use std::alloc::Global;
 use std::collections::HashMap;
 use std::process::Abort;
@@ -53,7 +54,7 @@ fn counts_of<K: Copy + Ord>(alloc: Global, keys: &[K]) -> Result<Counts<K>, OutO
     let mut counts = Counts::new(alloc);
     for key in keys {
         if counts.count(key) < 9 {
-            counts.raise(*key)?;
+            counts.raise(&mut Room::new(alloc), *key)?;
         }
     }
     Ok(counts)
@@ -101,14 +102,17 @@ fn take_keys_out(rt: &impl Abort, counts: &mut Counts<i64>) {
 
 #[test]
 fn counts_keys_all_at_once(rt: HostRuntime) -> Result<(), Fail> {
-    let mut counts = Counts::from_keys(rt.alloc(), vec![in rt.alloc(); 5i64, 3, 5, -4, 5]?)?;
+    let mut counts = Counts::from_keys(
+        &mut Room::new(rt.alloc()),
+        vec![in rt.alloc(); 5i64, 3, 5, -4, 5]?,
+    )?;
     take_keys_out(&rt, &mut counts);
     Ok(())
 }
 
 #[test]
 fn counts_no_keys(rt: HostRuntime) -> Result<(), Fail> {
-    let none: Counts<i64> = Counts::from_keys(rt.alloc(), Vec::new(rt.alloc()))?;
+    let none: Counts<i64> = Counts::from_keys(&mut Room::new(rt.alloc()), Vec::new(rt.alloc()))?;
     assert_eq!(rt; none.least(), None);
     Ok(())
 }

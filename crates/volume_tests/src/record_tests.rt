@@ -10,6 +10,7 @@ use field_map::{FieldMap, Place};
 use frame_cut::Head;
 use key_counts::Ratio;
 use num_order::{Kind, Order};
+use room::Room;
 use sample_codes::{Format, IntegerFormat, OpaqueFormat};
 use std::alloc::{AllocError, Global};
 use std::process::Abort;
@@ -60,7 +61,7 @@ fn with_standard(
 ) -> Result<(), Fail>
     requires { IsAlwaysCallable ask.now }
 {
-    let fields = FieldMap::standard(alloc, 0)?;
+    let fields = FieldMap::standard(&mut Room::new(alloc), 0)?;
     ask(&fields)
 }
 
@@ -134,7 +135,11 @@ fn inline_place() -> Place {
 }
 
 fn expect_moved_headers(rt: &impl Abort, alloc: Global, fields: &mut FieldMap) -> Result<(), Fail> {
-    assert!(rt; fields.bind(alloc, "inline", inline_place()).is_ok());
+    assert!(rt;
+        fields
+            .bind(&mut Room::new(alloc), "inline", inline_place())
+            .is_ok()
+    );
     let runs = header_runs(alloc)?;
     record_under_runs(rt, fields, &runs);
     Ok(())
@@ -143,7 +148,7 @@ fn expect_moved_headers(rt: &impl Abort, alloc: Global, fields: &mut FieldMap) -
 #[test]
 fn reads_headers_under_runs_and_by_the_map(rt: HostRuntime) -> Result<(), Fail> {
     let alloc = rt.alloc();
-    let mut fields = FieldMap::standard(alloc, 0)?;
+    let mut fields = FieldMap::standard(&mut Room::new(alloc), 0)?;
     expect_moved_headers(&rt, alloc, &mut fields)
 }
 

@@ -2,6 +2,7 @@
 use crate::tables::{insert, table_of};
 use key_counts::Ratio;
 use record_table::Records;
+use room::Room;
 use std::alloc::Global;
 use std::mem::size_of;
 use std::process::Abort;
@@ -140,7 +141,7 @@ fn shift(
     if from >= table.count() || to >= table.count() {
         return Err(Fail::from("no such record"));
     }
-    let prepared = table.prepare_move(alloc, from + 1, to + 1)?;
+    let prepared = table.prepare_move(&mut Room::new(alloc), from + 1, to + 1)?;
     table.commit(prepared);
     Ok(())
 }

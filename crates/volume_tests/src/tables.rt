@@ -12,6 +12,7 @@ use crate::heads::plain_head;
 use crate::puts::is_trace;
 use edit_overlay::Overlay;
 use frame_cut::{Limits, Reading};
+use room::Room;
 use std::alloc::Global;
 use std::test::Fail;
 use trace_record::{PackedRecord, Record};
@@ -36,7 +37,12 @@ pub(crate) fn insert(
         return Err(Fail::from("no whole trace"));
     }
     let base = Base::Added(Vec::from_slice(alloc, &bytes)?);
-    table.insert(alloc, place + 1, base, PackedRecord::of(*added))?;
+    table.insert(
+        &mut Room::new(alloc),
+        place + 1,
+        base,
+        PackedRecord::of(*added),
+    )?;
     Ok(())
 }
 
@@ -44,7 +50,12 @@ pub(crate) fn insert(
 pub(crate) fn table_of(alloc: Global, records: &[Record]) -> Result<TraceStore<PackedRecord>, Fail>
     ensures { IfOk result (λ table. map record_in (payloads_of table) ≡ records.now) }
 {
-    let mut table = TraceStore::new(alloc, Vec::new(alloc), plain_head(), records.len())?;
+    let mut table = TraceStore::new(
+        &mut Room::new(alloc),
+        Vec::new(alloc),
+        plain_head(),
+        records.len(),
+    )?;
     for record in records {
         let count = table.count();
         insert(alloc, &mut table, count, record)?;
@@ -62,7 +73,12 @@ pub(crate) fn volume_of<T: Copy>(
     ensures cut { IfOk result (λ o. IsCut file.items as_written limits o.volume) }
     ensures payloads { IfOk result (λ o. o.payloads ≡ payloads.now) }
 {
-    let mut loading = Loading::from_bytes(alloc, file, Reading::as_written(), limits)?;
+    let mut loading = Loading::from_bytes(
+        &mut Room::new(alloc),
+        file,
+        Reading::as_written(),
+        limits,
+    )?;
     match give_each(alloc, &mut loading, payloads) {
         Ok(()) => Ok(loading.finish()),
         Err(fail) => {
@@ -93,7 +109,7 @@ fn push_each<T: Copy>(alloc: Global, loading: &mut Loading<T>, payloads: &[T]) -
     ensures payloads { OnOk result (loading.new.payloads ≡ payloads.now) }
 {
     for payload in payloads {
-        loading.push(alloc, *payload)?;
+        loading.push(&mut Room::new(alloc), *payload)?;
     }
     Ok(())
 }

@@ -9,6 +9,7 @@ use crate::views::view;
 use field_map::Place;
 use frame_cut::Head;
 use num_order::{Kind, Order};
+use room::Room;
 use sample_codes::{Format, IntegerFormat, OpaqueFormat};
 use std::alloc::{AllocError, Global};
 use std::process::Abort;
@@ -229,7 +230,7 @@ fn put_over(alloc: Global, runs: &[Run], at: u64, bytes: &[u8]) -> Result<Vec<Ru
     requires inside { at + length bytes.now ≤ 244 }
     ensures { IfOk result (λ list. Fit list.items 244) }
 {
-    put_run(alloc, 244, runs, at, bytes)
+    put_run(&mut Room::new(alloc), 244, runs, at, bytes)
 }
 
 // Two puts beside one another.

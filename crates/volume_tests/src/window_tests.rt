@@ -1,4 +1,5 @@
 // Places of cells that have an offset each, and of rows that are added, worked by hand.
+use room::Room;
 use std::alloc::{AllocError, Global};
 use std::test::Fail;
 use window_counts::{
@@ -15,7 +16,7 @@ fn places_of(
     for triple in triples {
         extent.include(*triple);
     }
-    let window = OffsetRectangle::by_cell(alloc, &extent, traces)?;
+    let window = OffsetRectangle::by_cell(&mut Room::new(alloc), &extent, traces)?;
     Ok(met(window, triples))
 }
 
@@ -94,7 +95,7 @@ fn counts_of(alloc: Global, last: i32) -> Result<CellCounts, Fail> {
     let mut extent = RectangleExtent::none();
     extent.include((10, 20));
     extent.include((11, last));
-    Ok(CellCounts::within(alloc, Rectangle::over(&extent, 200))?)
+    Ok(CellCounts::within(&mut Room::new(alloc), Rectangle::over(&extent, 200))?)
 }
 
 // How many places there are once the cell was counted.

@@ -11,5 +11,5 @@ pub returns-clause-order : goal.returns-clause-order
 returns-clause-order c =
     let from : c.in_ok-rows.rows.items ≡ range_with_len 0 (length c.args.table.now) = search rules in
     sorted-rows c.args.falling.now c.args.table.now c.requires.0 c.in_ok-rows.rows.items c.sort_by.new.self.items c.requires.1 from
-    (λ weak. c.in_ok-sort_by.ensures.sorted (is_before c.args.falling.now (row_near c.args.table.now)) weak (always_returns_same _ (λ a r. is_lt r ≡ is_before c.args.falling.now (row_near c.args.table.now) a.0.now a.1.0.now) _ (λ a r q k. search rules)))
-    (λ weak. c.in_ok-sort_by.ensures.stable (is_before c.args.falling.now (row_near c.args.table.now)) weak (always_returns_same _ (λ a r. is_lt r ≡ is_before c.args.falling.now (row_near c.args.table.now) a.0.now a.1.0.now) _ (λ a r q k. search rules)))
+    (λ weak. (rw c.in_ok-told.ensures.ok at c.sort_by.ensures.sorted) (is_before c.args.falling.now (row_near c.args.table.now)) weak (always_returns_same _ (λ a r. is_lt r ≡ is_before c.args.falling.now (row_near c.args.table.now) a.0.now a.1.0.now) _ (λ a r q k. search rules)))
+    (λ weak. (rw c.in_ok-told.ensures.ok at c.sort_by.ensures.stable) (is_before c.args.falling.now (row_near c.args.table.now)) weak (always_returns_same _ (λ a r. is_lt r ≡ is_before c.args.falling.now (row_near c.args.table.now) a.0.now a.1.0.now) _ (λ a r q k. search rules)))

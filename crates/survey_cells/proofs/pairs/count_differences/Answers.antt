@@ -46,12 +46,14 @@ loop-cell-preserved c =
                 (w.in_ok-raise.ensures.each q
                 ∙ ap (λ n. n + cond (is_eq (difference_cmp v q)) 1 0) (c.loop-cell.invariant.counts q)
                 ∙ sym (ap (λ (l : List Difference). times_in difference_cmp l q) kept ∙ times_more ds v q));
+            memory = rw w.room-is (grind (arith, c.loop-cell.invariant.memory, w.in_ok-raise.ensures.memory.never_falls));
           }
       | in_default w ↦
           let kept : filter_map h (take (i + 1) cells) ≡ ds = kept_none h cells i d c.loop-cell-test.true (w.in_default.ensures ∙ ap h c.cell-item.is) in
           record {
             pairs = w.pairs-is ∙ c.loop-cell.invariant.pairs ∙ sym (ap length kept);
             counts = λ q. rw w.counts-is (c.loop-cell.invariant.counts q ∙ sym (ap (λ (l : List Difference). times_in difference_cmp l q) kept));
+            memory = rw w.room-is c.loop-cell.invariant.memory;
           }
     ]
 

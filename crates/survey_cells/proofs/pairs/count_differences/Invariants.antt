@@ -1,4 +1,4 @@
-use Rattle.std.specs.Prelude.{◌≡◌, length, filter_map, take}
+use Rattle.std.specs.Prelude.{◌≡◌, ◌≤◌, length, filter_map, take}
 use Rattle.key_counts.specs.Counts.{count_of}
 use Rattle.key_counts.specs.Rising.{times_in}
 use Rattle.position_differences.specs.Differences.{difference_cmp}
@@ -11,4 +11,5 @@ abbrev pub invariant-loop-cell : goal.invariant-loop-cell
 invariant-loop-cell l = record {
   pairs : l.pairs ≡ length (filter_map (difference_beyond l.cells l.apart) (take l.cell-index l.cells));
   counts : (q : Difference) → count_of difference_cmp l.counts q ≡ times_in difference_cmp (filter_map (difference_beyond l.cells l.apart) (take l.cell-index l.cells)) q;
+  memory : l.initial.room ≤ l.room;
 }

@@ -18,7 +18,7 @@ use Rattle.fault_live.proofs.faults.Faults.report.Goals as goal
 
 pub loop-trace-preserved : goal.loop-trace-preserved
 loop-trace-preserved c =
-    let told = c.loop-trace.invariant.2 in
+    let told = c.loop-trace.invariant.3 in
     let ys = c.loop-trace.yielded in
     let x = c.in-Some.trace in
     let zs = c.next.new.self in
@@ -27,9 +27,10 @@ loop-trace-preserved c =
     let fit : SFits w16 c.units_of_first-units.result = search rules in
     let value = subst (λ k. c.in_ok-first.first ≡ cond (nat_lt 1 (count_of triple_cmp c.args.self.now.triples k)) (unwrap_or (get triple_cmp c.loop-trace.firsts k) p) p) c.key_of.ensures c.in_ok-first.ensures.value in
     let places = subst (λ k. (q : ℤ × ℤ × ℤ) → get triple_cmp c.first_of.new.firsts q ≡ cond (nat_lt 1 (count_of triple_cmp c.args.self.now.triples k) && is_eq (triple_cmp k q)) (Some (unwrap_or (get triple_cmp c.loop-trace.firsts k) p)) (get triple_cmp c.loop-trace.firsts q)) c.key_of.ensures c.in_ok-first.ensures.places in
-    let grew = subst (λ u. c.push_trace.new.report.items ≡ c.loop-trace.report.items ++ own_faults c.args.head.now p (facts_of x) ++ unless (is_scalar x.scalar) (Scalar p x.scalar) ++ among_faults c.args.head.now u (Some c.in_ok-first.first) p (facts_of x)) (to_z-of_z w16 c.units_of_first-units.result fit ∙ c.units_of_first-units.ensures) c.in_ok-push_trace.ensures in (
+    let grew = subst (λ u. c.push_trace.new.report.items ≡ c.loop-trace.report.items ++ own_faults c.args.head.now p (facts_of x) ++ unless (is_scalar x.scalar) (Scalar p x.scalar) ++ among_faults c.args.head.now u (Some c.in_ok-first.first) p (facts_of x)) (to_z-of_z w16 c.units_of_first-units.result fit ∙ c.units_of_first-units.ensures) c.in_ok-push_trace.ensures.items in (
       append_assoc ys (x ∷ []) zs ∙ parts,
       ap (λ n. n + 1) c.loop-trace.invariant.1 ∙ sym (length-append ys (x ∷ [])),
+      grind arith,
       λ counted. (
         report_grows c.args.records.now ys x zs parts c.args.head.now
             (λ q. count_of triple_cmp c.args.self.now.triples q) (λ f. counted.count (triple f.inline f.crossline f.offset)) c.loop-trace.position p c.loop-trace.invariant.1 refl

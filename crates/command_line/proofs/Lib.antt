@@ -1,2 +1,4 @@
+pub mod AcceptedLemmas
 pub mod LimitTextLemmas
+pub mod ReadableLemmas
 pub mod RowLemmas

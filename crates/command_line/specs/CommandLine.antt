@@ -1,12 +1,16 @@
 -- The command line of the program, as clap sees it.
-use Rattle.std.specs.Prelude.{◌≡◌, ◌⊎◌, ℕ, ℤ, pos, Bool, true, false, List, map, Option, Some, None, codes, if◌then◌else◌}
+use Rattle.std.specs.Prelude.{◌≡◌, ◌⊎◌, ◌||◌, ℕ, ℤ, pos, Bool, true, false, List, [], ◌∷◌, Option, Some, None, IfSome, is_some, codes, if◌then◌else◌}
 use Rattle.std.specs.Str.{bytes_eq}
 use Rattle.std.specs.Str.Parse.{digits_value, without_leading_plus}
-use Rattle.std.specs.String.{string_bytes}
 use Rattle.std.specs.Prelude.{refl}
 use Rattle.clap.proofs.OnLiterals.{clap_on_literals}
+use Rattle.clap.specs.Faults.{fault_of, is_simple_and_free}
+use Rattle.clap.specs.Kinds.{Kinds, or_else}
+use Rattle.clap.specs.declared.error.kind.ErrorKind.TheVariants.{InvalidValue}
 use Rattle.clap.specs.Simple.{on_top}
-use Rattle.clap.specs.Words.{is_simple, App, Row, Rule, first_of, one_of, matches_of, new_app, new_rule, with_rule}
+use Rattle.clap.specs.Values.{IsUnsignedIn}
+use Rattle.clap.specs.declared.parser.matches.Found.{Found}
+use Rattle.clap.specs.Words.{first_value, one_text, is_simple, App, Row, Rule, first_of, matches_of, new_app, new_rule, with_rule}
 use Rattle.clap.specs.declared.builder.ArgAction.TheVariants.{Set, SetTrue}
 use Rattle.clap.specs.declared.builder.value_parser.ValueParser.TheVariants as vp
 use Rattle.num_order.specs.declared.order.Order.{Order}
@@ -14,7 +18,7 @@ use Rattle.num_order.specs.declared.order.Order.TheVariants.{Big, Little}
 
 -- the argument `FILE`
 abbrev pub file_rule : Rule
-file_rule = record (new_rule (codes "FILE")) { required = true }
+file_rule = record (new_rule (codes "FILE")) { action = Some Set; required = true }
 
 -- the argument `--script S`
 abbrev pub script_rule : Rule
@@ -129,7 +133,33 @@ abbrev pub ReadsOrder : Option (List ℕ) → Option Order → Type 0
 ReadsOrder None order = order ≡ None
 ReadsOrder (Some text) order = (text ≡ codes "big" × order ≡ Some Big) ⊎ (text ≡ codes "little" × order ≡ Some Little)
 
+-- the text, where there is one, is a number from low to high
+abbrev pub IsNumberIn : ℕ → ℕ → Option (List ℕ) → Type 0
+IsNumberIn low high text = IfSome text (IsUnsignedIn low high)
+
+-- what is read of the matches is there, as numbers that are not too great
+pub record IsReadable (f : Found) : Type 0 where
+  pub file : is_some (first_value f (codes "FILE")) ≡ true
+  pub limit : IsNumberIn 1 1099511627776 (one_text f (codes "max-bytes"))
+  pub samples : IsNumberIn 0 4294967295 (one_text f (codes "samples"))
+  pub format : IsNumberIn 0 65535 (one_text f (codes "format"))
+  pub texts : IsNumberIn 0 32767 (one_text f (codes "texts"))
+
+-- a word behind `--order` that names no order of bytes is refused
+abbrev pub order_refusals : Option (List ℕ) → Kinds
+order_refusals None = []
+order_refusals (Some text) = if bytes_eq text (codes "big") || bytes_eq text (codes "little") then [] else InvalidValue ∷ []
+
+-- what the words are refused for, clap's refusals before that of the order: they are accepted where the list is empty
+unfoldable pub refusals : List (List ℕ) → Kinds
+refusals words = or_else (fault_of segywb words) (order_refusals (first_of (codes "order") (matched words)))
+
 -- the command is one of which clap's words give the matches
 pub segywb-is_simple : is_simple segywb ≡ true
 unfolding segywb clap_on_literals
 segywb-is_simple = refl
+
+-- and the kinds of its refusals
+pub segywb-is_free : is_simple_and_free segywb ≡ true
+unfolding segywb clap_on_literals
+segywb-is_free = refl

@@ -1,8 +1,8 @@
 // The command line, read by clap.
-ghost use Rattle.std.specs.Prelude.{◌≡◌, ◌≤◌, ℕ, List, Some, None, IfOk, IfSome, IfErr, codes, map, option_map, OnOk, true, false};
+ghost use Rattle.std.specs.Prelude.{◌≡◌, ◌≤◌, ℕ, List, [], ◌∷◌, Some, None, IfOk, IfSome, IsNone, IsSome, codes, map, option_map};
 ghost use Rattle.std.specs.String.{string_bytes};
-ghost use Rattle.clap.specs.Words.{app_of, first_of, one_of, is_simple, found_of, rows_of, first_value, one_text};
-ghost use Rattle.command_line.specs.CommandLine.{segywb, titled, matched, is_set, ReadsLimit, ReadsCount, ReadsOrder};
+ghost use Rattle.clap.specs.Words.{FailsBy, app_of, first_of, one_of, found_of, first_value, one_text};
+ghost use Rattle.command_line.specs.CommandLine.{segywb, titled, matched, is_set, order_refusals, refusals, IsNumberIn, IsReadable, ReadsLimit, ReadsCount, ReadsOrder};
 
 use clap::error::ErrorKind;
 use clap::{ArgMatches, Command, Error};
@@ -83,6 +83,8 @@ fn command<'a>(alloc: Global) -> Result<Command<'a>, AllocError>
 // The limit on the file's bytes; `None` where it is no number from 1 to 2^40, which the matches of
 // `command` rule out.
 fn max_bytes(matches: &ArgMatches) -> Option<Option<u64>>
+    ensures gives { IsNumberIn 1 1099511627776 (one_text (found_of matches.now) (codes "max-bytes"))
+        → IsSome result }
     ensures text { IfSome result
         (λ limit. ReadsLimit (one_text (found_of matches.now) (codes "max-bytes")) limit) }
     ensures range { IfSome result (λ limit. IfSome limit (λ n. (1 ≤ n) × (n ≤ 1099511627776))) }
@@ -97,6 +99,7 @@ fn max_bytes(matches: &ArgMatches) -> Option<Option<u64>>
 // A number that is asked for; `None` where it is above the greatest, which the matches of `command`
 // rule out.
 fn number(matches: &ArgMatches, id: &str, greatest: u64) -> Option<Option<u64>>
+    ensures gives { IsNumberIn 0 greatest (one_text (found_of matches.now) id.now) → IsSome result }
     ensures text { IfSome result
         (λ number. ReadsLimit (one_text (found_of matches.now) id.now) number) }
     ensures range { IfSome result (λ number. IfSome number (λ n. n ≤ greatest)) }
@@ -110,7 +113,9 @@ fn number(matches: &ArgMatches, id: &str, greatest: u64) -> Option<Option<u64>>
 
 // The number of samples that is asked for.
 fn samples(matches: &ArgMatches) -> Option<Option<u32>>
-    ensures { IfSome result
+    ensures gives { IsNumberIn 0 4294967295 (one_text (found_of matches.now) (codes "samples"))
+        → IsSome result }
+    ensures text { IfSome result
         (λ samples. ReadsLimit (one_text (found_of matches.now) (codes "samples")) samples) }
 {
     match number(matches, "samples", u32::MAX as u64)? {
@@ -121,7 +126,9 @@ fn samples(matches: &ArgMatches) -> Option<Option<u32>>
 
 // The code of the sample format that is asked for.
 fn format(matches: &ArgMatches) -> Option<Option<u16>>
-    ensures { IfSome result
+    ensures gives { IsNumberIn 0 65535 (one_text (found_of matches.now) (codes "format"))
+        → IsSome result }
+    ensures text { IfSome result
         (λ format. ReadsLimit (one_text (found_of matches.now) (codes "format")) format) }
 {
     match number(matches, "format", u16::MAX as u64)? {
@@ -132,7 +139,9 @@ fn format(matches: &ArgMatches) -> Option<Option<u16>>
 
 // The number of extended textual headers that is asked for.
 fn texts(matches: &ArgMatches) -> Option<Option<i16>>
-    ensures { IfSome result
+    ensures gives { IsNumberIn 0 32767 (one_text (found_of matches.now) (codes "texts"))
+        → IsSome result }
+    ensures text { IfSome result
         (λ texts. ReadsCount (one_text (found_of matches.now) (codes "texts")) texts) }
 {
     match number(matches, "texts", i16::MAX as u64)? {
@@ -143,7 +152,10 @@ fn texts(matches: &ArgMatches) -> Option<Option<i16>>
 
 // The order of bytes that is asked for; `None` where the word names none.
 fn order(matches: &ArgMatches) -> Option<Option<Order>>
-    ensures { IfSome result
+    ensures refused { IsNone result
+        → order_refusals (first_value (found_of matches.now) (codes "order"))
+        ≡ ErrorKind.InvalidValue ∷ [] }
+    ensures text { IfSome result
         (λ order. ReadsOrder (first_value (found_of matches.now) (codes "order")) order) }
 {
     match matches.get_str("order") {
@@ -166,6 +178,7 @@ fn is_set(matches: &ArgMatches, id: &str) -> bool
 
 // `None` never comes where the matches are those of `command`.
 fn read_matches<'a>(matches: &ArgMatches<'a>, order: Option<Order>) -> Option<Arguments<'a>>
+    ensures gives { IsReadable (found_of matches.now) → IsSome result }
     ensures file { IfSome result (λ a. first_value (found_of matches.now) (codes "FILE") ≡ Some
         a.file.now) }
     ensures script { IfSome result
@@ -259,7 +272,11 @@ fn read_matches<'a>(matches: &ArgMatches<'a>, order: Option<Order>) -> Option<Ar
 /// to 32767, and that of bytes 1 to 1099511627776. An option may stand more than once, and the last
 /// one counts. Refused with clap's text where they are not accepted, `--help`
 /// too, or where a growth was refused. Takes memory.
+///
+/// Other words than those of `refusals` are accepted: `Err` comes for them from want of memory
+/// alone, and `Ok` for no others.
 pub fn arguments<'a>(alloc: Global, words: &'a [String]) -> Result<Arguments<'a>, Error>
+    ensures refusals { FailsBy (refusals (map string_bytes words.now)) result }
     ensures file { IfOk result (λ a. first_of (codes "FILE") (matched (map string_bytes words.now))
         ≡ Some a.file.now) }
     ensures script { IfOk result

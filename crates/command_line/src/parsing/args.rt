@@ -12,10 +12,13 @@ pub fn file<'a>(alloc: Global) -> Arg<'a>
     ensures rule { rule_of result ≡ file_rule }
     ensures local { result.global ≡ false }
 {
-    Arg::new(alloc, "FILE").required(true).help(
-        "SEG-Y file of integers, or with --floats or --opaque-samples; in memory, but for \
-         --on-disk",
-    )
+    Arg::new(alloc, "FILE")
+        .required(true)
+        .action(ArgAction::Set)
+        .help(
+            "SEG-Y file of integers, or with --floats or --opaque-samples; in memory, but for \
+             --on-disk",
+        )
 }
 
 // `--script S`: the script to run.

@@ -1,6 +1,13 @@
-use Rattle.std.proofs.Common.{◌≡◌, ◌∙◌, ap, sym, subst, codes, ℕ, Bool, List, Option}
+use Rattle.std.proofs.Common.{◌≡◌, ◌∙◌, ap, sym, subst, codes, ℕ, List, [], map, is_some, Option, Result, Ok, Err, true≢false}
+use Rattle.std.specs.String.{string_bytes}
+use Rattle.clap.specs.Built.{IsParsedFrom}
+use Rattle.clap.specs.Faults.{fault_of}
+use Rattle.clap.specs.declared.error.Error.{Error}
+use Rattle.clap.specs.declared.parser.matches.ArgMatches.{ArgMatches}
 use Rattle.clap.specs.Words.{first_of, first_value, one_of, found_of}
-use Rattle.command_line.specs.CommandLine.{is_set, ReadsLimit, ReadsCount, ReadsOrder, matched}
+use Rattle.command_line.specs.CommandLine.{is_set, ReadsLimit, ReadsCount, ReadsOrder, order_refusals, refusals, segywb}
+use Rattle.command_line.proofs.AcceptedLemmas.{by_our_faults, nothing_refused, passed_up, refused_by_clap, refused_for_order}
+use Rattle.command_line.proofs.ReadableLemmas.{found_readable}
 use Rattle.command_line.proofs.RowLemmas.{rows_are, first_of-rows_of, one_of-rows_of}
 use Rattle.command_line.proofs.parsing.arguments.Goals as goal
 
@@ -96,7 +103,7 @@ returns-in-Some-read_matches-clause-order c =
     let rows = rows_are _ _ c.in_ok-matches.matches c.in_ok-command.ensures c.in_ok-matches.ensures.ok.2 in
     let same = sym (ap (first_of (codes "order")) (sym rows) ∙ first_of-rows_of (found_of c.in_ok-matches.matches) (codes "order")) in
     subst (λ (o : Option (List ℕ)). ReadsOrder o c.in-Some-read_matches.read.order) same
-    (subst (ReadsOrder (first_value (found_of c.in_ok-matches.matches) (codes "order"))) (sym c.in-Some-read_matches.ensures.order) c.in-Some.ensures)
+    (subst (ReadsOrder (first_value (found_of c.in_ok-matches.matches) (codes "order"))) (sym c.in-Some-read_matches.ensures.order) c.in-Some.ensures.text)
 
 pub returns-in-Some-read_matches-clause-samples : goal.returns-in-Some-read_matches-clause-samples
 returns-in-Some-read_matches-clause-samples c =
@@ -121,3 +128,39 @@ returns-in-Some-read_matches-clause-look c =
     let rows = rows_are _ _ c.in_ok-matches.matches c.in_ok-command.ensures c.in_ok-matches.ensures.ok.2 in
     let same = sym (ap (first_of (codes "look")) (sym rows) ∙ first_of-rows_of (found_of c.in_ok-matches.matches) (codes "look")) in
     c.in-Some-read_matches.ensures.look ∙ ap is_set same
+
+pub returns-in_err-matches-clause-refusals : goal.returns-in_err-matches-clause-refusals
+returns-in_err-matches-clause-refusals c =
+    let words : List (List ℕ) = map string_bytes c.args.words.now in
+    let e : Error = c.in_err-matches.field-0.0 in
+    let parse : Result ArgMatches Error = Err e in
+    passed_up (refusals words) c.from_residual-in_err-matches.result e c.from_residual-in_err-matches.ensures.1
+    (refused_by_clap words e (by_our_faults _ words parse c.in_ok-command.ensures c.in_err-matches.ensures.kinds))
+
+pub returns-in_default-clause-refusals : goal.returns-in_default-clause-refusals
+returns-in_default-clause-refusals c =
+    let words : List (List ℕ) = map string_bytes c.args.words.now in
+    let rows = rows_are _ _ c.in_ok-matches.matches c.in_ok-command.ensures c.in_ok-matches.ensures.ok.2 in
+    let same = ap (first_of (codes "order")) (sym rows) ∙ first_of-rows_of (found_of c.in_ok-matches.matches) (codes "order") in
+    let parse : Result ArgMatches Error = Ok c.in_ok-matches.matches in
+    let taken : fault_of segywb words ≡ [] = by_our_faults _ words parse c.in_ok-command.ensures c.in_ok-matches.ensures.kinds in
+    refused_for_order words c.in_ok-error.field-0 taken (ap order_refusals same ∙ c.order.ensures.refused (ap (λ o. is_some o) c.in_default.is)) c.in_ok-error.ensures.kind
+
+pub returns-in-Some-read_matches-clause-refusals : goal.returns-in-Some-read_matches-clause-refusals
+returns-in-Some-read_matches-clause-refusals c =
+    let words : List (List ℕ) = map string_bytes c.args.words.now in
+    let rows = rows_are _ _ c.in_ok-matches.matches c.in_ok-command.ensures c.in_ok-matches.ensures.ok.2 in
+    let same = sym (ap (first_of (codes "order")) (sym rows) ∙ first_of-rows_of (found_of c.in_ok-matches.matches) (codes "order")) in
+    let parse : Result ArgMatches Error = Ok c.in_ok-matches.matches in
+    let taken : fault_of segywb words ≡ [] = by_our_faults _ words parse c.in_ok-command.ensures c.in_ok-matches.ensures.kinds in
+    nothing_refused words c.in-Some.order taken (subst (λ (o : Option (List ℕ)). ReadsOrder o c.in-Some.order) same c.in-Some.ensures.text)
+
+-- what is read of the matches is always there
+pub returns-clause-refusals : goal.returns-clause-refusals
+returns-clause-refusals c =
+    let parsed : IsParsedFrom c.in_ok-command.command c.in_ok-matches.matches = record {
+      built = c.try_get_matches_from_mut.new.self;
+      from = c.in_ok-matches.ensures.ok.0;
+      parsed = c.in_ok-matches.ensures.ok.1;
+    } in
+    absurd (true≢false (sym (c.in-None.ensures.gives (found_readable c.in_ok-command.command c.in_ok-matches.matches c.in_ok-command.ensures parsed))))

@@ -22,7 +22,7 @@ pub enum OutEnd {
 
 /// Ends the save of a run that ended so: writes what waits and lets OUT be the new file, where all
 /// lines were run and a save is asked for; else the new file is taken away. The folder comes back.
-/// A save that could be done is done: one is refused only where a step of it failed (`cause`).
+/// Behind all lines a save that could be done is done: it is refused only where a step failed.
 pub fn end_out<F: Folder + Drop>(
     end: RunEnd,
     is_asked: bool,
@@ -36,7 +36,7 @@ pub fn end_out<F: Folder + Drop>(
     ensures stands { Stored (writer_contents (option_map beside_bytes) writer) (F.disk result.0)
         (StandsAs result.1 mode) }
 
-    // What is told of a save that was refused is what failed.
+    // What is told of a save that was refused is what failed, or why it was given up.
     ensures cause { Stored (writer_contents (option_map beside_bytes) writer) (F.disk result.0)
         (λ _. TellsCause (is_whole is_asked end) result.1) }
 

@@ -1,8 +1,8 @@
 // A file that is written up to a limit on its size.
 ghost use Rattle.std.specs.Prelude.{◌≡◌, ◌≤◌};
 ghost use Rattle.std.specs.Io.{WritesAtMost};
-ghost use Rattle.std.specs.Io.KnownBytes.{WriteAppends};
-ghost use Rattle.safe_save.specs.Bounded.{Bounded, Counts};
+ghost use Rattle.std.specs.Io.KnownBytes.{Keeps, WriteAppends};
+ghost use Rattle.safe_save.specs.Bounded.{Bounded, Counts, Stays};
 
 use std::io::{Error, ErrorKind, Result, Write};
 use std::marker::Model;
@@ -15,7 +15,7 @@ const TOO_LARGE: i32 = 27;
 
 /// A file that is being written, of at most `limit` bytes: a write behind the system's own limit
 /// would end the process by a signal. A write that a signal interrupts is made again. A clause sees
-/// it as the file inside, the limit, and how many bytes it took, which are never more.
+/// it as the file inside, the limit, and how many bytes it took: never more than the limit.
 #[derive(Drop)]
 pub struct BoundedFile<W> {
     inner: W,
@@ -77,7 +77,10 @@ impl<W: Write> Write for BoundedFile<W> {
         Ok(count)
     }
 
-    fn flush(&mut self) -> Result<()> {
+    fn flush(&mut self) -> Result<()>
+        ensures bytes { Keeps (W.contents self.old.file) (W.contents self.new.file) }
+        ensures count { Stays self.old self.new }
+    {
         self.inner.flush()
     }
 }

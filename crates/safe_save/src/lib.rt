@@ -5,9 +5,9 @@
 //! new file at the first write. `end_save` ends a save, and `give_up` one in which a write failed.
 //! At every moment, and after every failure at every step, a crash leaves under OUT what was there
 //! or the whole new file with its mode (`any_moment`), for every folder whose calls do what the
-//! trait says; a save that is refused tells the step that failed last (`cause`). `FileFolder` is
-//! the system's own, of which no clause says what it shows; `FakeFolder` is one in memory, which
-//! shows that the trait's clauses can be met.
+//! trait says; where `end_save` refuses, a step failed, or the folder's sync, and is told
+//! (`cause`). `FileFolder` is the system's own, of which no clause says what it shows; `FakeFolder`
+//! is one in memory, which shows that the trait's clauses can be met.
 //!
 //! `SavePlace` is a place that takes one save after another, as OUT of a session does;
 //! `MemoryPlace` is one in memory.

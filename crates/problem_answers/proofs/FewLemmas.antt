@@ -1,6 +1,6 @@
 -- How often the keys of a list occur, all in all.
-use Rattle.std.specs.Prelude.{◌≡◌, ℕ, ◌+◌, ◌≤◌, Bool, true, false, List, [], ◌∷◌, length, map, count_by, sum_by, refl}
-use Rattle.std.proofs.Common.{sym, ap, ap₂, ◌∙◌, cond, arith}
+use Rattle.std.specs.Prelude.{◌≡◌, ℕ, ◌+◌, ◌≤◌, List, [], ◌∷◌, length, map, sum_by, refl}
+use Rattle.std.proofs.Common.{ap, ap₂, ◌∙◌, cond, arith}
 use Rattle.std.specs.List.{AllByRecursion}
 use Rattle.std.specs.List.Sorted.{IsStrictlySortedBy}
 use Rattle.std.specs.BTreeSet.{insert_key}

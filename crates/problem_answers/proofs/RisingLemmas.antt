@@ -1,5 +1,5 @@
 -- The lists of inlines and crosslines rise.
-use Rattle.std.specs.Prelude.{◌≡◌, ℕ, ℤ, List, [], ◌∷◌, map, refl}
+use Rattle.std.specs.Prelude.{◌≡◌, ℤ, List, [], ◌∷◌, map, refl}
 use Rattle.std.proofs.Common.{ap, sym, subst}
 use Rattle.std.specs.List.Sorted.{IsStrictlySortedBy}
 use Rattle.std.specs.Ordering.{int_cmp}

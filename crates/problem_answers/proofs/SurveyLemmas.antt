@@ -1,5 +1,5 @@
 -- What the grid of the traces lists is what their records list from scratch.
-use Rattle.std.specs.Prelude.{◌≡◌, ℕ, ◌<◌, ◌^◌, List, length}
+use Rattle.std.specs.Prelude.{◌≡◌, ◌<◌, ◌^◌, List, length}
 use Rattle.std.proofs.Common.{subst, sym, arith}
 use Rattle.trace_record.specs.Facts.{Facts}
 use Rattle.trace_record.specs.Tally.{Same, tally_of}

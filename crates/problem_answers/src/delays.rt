@@ -1,5 +1,6 @@
 // The delays of all traces.
-ghost use Rattle.std.specs.Prelude.{◌≡◌, ◌⊎◌, ◌<◌, ◌^◌, length, map, IsTrue, IfOk, IfErr};
+ghost use Rattle.std.specs.Prelude.{◌≡◌, ◌⊎◌, ◌<◌, ◌^◌, length, map, IsTrue, IfOk, IfErr, IsErrOf};
+ghost use Rattle.room.specs.Refusals.{Rises};
 ghost use Rattle.frame_cut.specs.Traces.{count_of, is_trace, trace_at};
 ghost use Rattle.trace_view.specs.Shown.{bytes_of, head_of};
 ghost use Rattle.edit_overlay.specs.CountedVolume.{IsSeen};
@@ -10,7 +11,7 @@ ghost use Rattle.bench_rules.specs.ReadFaults.{IsReadFault};
 use bench_rules::AskFault;
 use edit_overlay::{Overlay, ReadFault};
 use num_order::i16_at;
-use std::alloc::Global;
+use room::Room;
 use trace_record::PackedRecord;
 use trace_view::TraceView;
 
@@ -20,7 +21,7 @@ const DELAY: u64 = 108;
 /// The delay of each trace, in order. Looks once at each. Takes 8 bytes a trace; refused E11 for
 /// want of them, on disk also where a trace could not be read (E14, E15).
 pub(crate) fn delays(
-    alloc: Global,
+    room: &mut Room,
     overlay: &mut Overlay<PackedRecord>,
 ) -> Result<Vec<i64>, AskFault>
     ensures ok { IfOk result (λ delays. IsTrue overlay.new.agreed →
@@ -29,11 +30,12 @@ pub(crate) fn delays(
     ensures err { IfErr result (λ fault. (fault ≡ no_memory) ⊎
         (IsReadFault overlay.old.loaded.on_disk fault × (0 < count_of overlay.old.volume))) }
     ensures seen { IsSeen overlay.old overlay.new (count_of overlay.old.volume) }
+    ensures memory { Rises (IsErrOf result AskFault.OutOfMemory) room.old room.new }
 {
     let count = overlay.count();
-    let mut delays = Vec::with_capacity(alloc, count as usize)?;
+    let mut delays = room.told(Vec::with_capacity(room.alloc(), count as usize))?;
     for k in 0..count {
-        delays.push(delay(overlay, k + 1)?)?;
+        room.told_back(delays.push(delay(overlay, k + 1)?))?;
     }
     Ok(delays)
 }

@@ -1,5 +1,6 @@
 // The lines of problems, put behind others.
-ghost use Rattle.std.specs.Prelude.{◌≡◌, ◌∷◌, ◌++◌, flat_map, map, option_map, OnOk, Some};
+ghost use Rattle.std.specs.Prelude.{◌≡◌, ◌∷◌, ◌++◌, flat_map, map, option_map, OnOk, Some, IsErr};
+ghost use Rattle.room.specs.Refusals.{Rises};
 ghost use Rattle.line_problems.specs.MissingLines.{told};
 ghost use Rattle.cell_positions.specs.Jumps.{told as told_jumps};
 ghost use Rattle.cell_positions.specs.Shared.{told_shared};
@@ -11,19 +12,36 @@ use bench_rules::ProblemLine;
 use cell_positions::{Jumps, SharedPositions};
 use fault_live::Fault;
 use line_problems::{MissingLines, NoSurvey, UnevenFold};
-use std::alloc::AllocError;
+use room::{OutOfMemory, Room};
 use trace_groups::{TraceGroup, TraceProblem};
+
+/// Puts lines behind others. Takes memory.
+pub(crate) fn push_lines(
+    room: &mut Room,
+    lines: &mut Vec<ProblemLine>,
+    others: &[ProblemLine],
+) -> Result<(), OutOfMemory>
+    ensures items { OnOk result (lines.new.items ≡ lines.old.items ++ others.now) }
+    ensures memory { Rises (IsErr result) room.old room.new }
+{
+    for line in others {
+        room.told_back(lines.push(*line))?;
+    }
+    Ok(())
+}
 
 /// Puts a group of traces with its first runs behind others, where there is one. Takes memory.
 pub(crate) fn push_group(
+    room: &mut Room,
     lines: &mut Vec<ProblemLine>,
     group: Option<TraceGroup>,
-) -> Result<(), AllocError>
-    ensures { OnOk result (lines.new.items ≡ lines.old.items
+) -> Result<(), OutOfMemory>
+    ensures items { OnOk result (lines.new.items ≡ lines.old.items
         ++ group_lines (option_map group_in group)) }
+    ensures memory { Rises (IsErr result) room.old room.new }
 {
     match group {
-        Some(group) => push_runs(lines, &group),
+        Some(group) => push_runs(room, lines, &group),
         None => Ok(()),
     }
 }
@@ -31,16 +49,18 @@ pub(crate) fn push_group(
 /// Puts those groups of traces behind others, with their first runs, that stand behind the problems
 /// of the file's own headers; or those that stand in front of them. Takes memory.
 pub(crate) fn push_groups(
+    room: &mut Room,
     lines: &mut Vec<ProblemLine>,
     groups: &[TraceGroup],
     behind: bool,
-) -> Result<(), AllocError>
-    ensures { OnOk result (lines.new.items ≡ lines.old.items
+) -> Result<(), OutOfMemory>
+    ensures items { OnOk result (lines.new.items ≡ lines.old.items
         ++ lines_of_groups behind (map group_in groups.now)) }
+    ensures memory { Rises (IsErr result) room.old room.new }
 {
     for group in groups {
         if is_behind(group.problem) == behind {
-            push_runs(lines, group)?;
+            push_runs(room, lines, group)?;
         }
     }
     Ok(())
@@ -54,28 +74,39 @@ fn is_behind(problem: TraceProblem) -> bool
 }
 
 // Puts a group of traces with its first runs behind others.
-fn push_runs(lines: &mut Vec<ProblemLine>, group: &TraceGroup) -> Result<(), AllocError>
-    ensures { OnOk result (lines.new.items ≡ lines.old.items
+fn push_runs(
+    room: &mut Room,
+    lines: &mut Vec<ProblemLine>,
+    group: &TraceGroup,
+) -> Result<(), OutOfMemory>
+    ensures items { OnOk result (lines.new.items ≡ lines.old.items
         ++ group_lines (Some (group_in group.now))) }
+    ensures memory { Rises (IsErr result) room.old room.new }
 {
-    lines.push(ProblemLine::Traces(group.problem, group.traces, group.runs))?;
+    room.told_back(lines.push(ProblemLine::Traces(group.problem, group.traces, group.runs)))?;
     let runs = group.first_runs.as_slice();
     for run in runs {
-        lines.push(ProblemLine::Run(group.problem, *run))?;
+        room.told_back(lines.push(ProblemLine::Run(group.problem, *run)))?;
     }
     Ok(())
 }
 
 /// Puts the faults of the file's own headers behind others: F7 and F8. Takes memory.
-pub(crate) fn push_of_file(lines: &mut Vec<ProblemLine>, faults: &[Fault]) -> Result<(), AllocError>
-    ensures { OnOk result (lines.new.items ≡ lines.old.items ++ flat_map file_lines faults.now) }
+pub(crate) fn push_of_file(
+    room: &mut Room,
+    lines: &mut Vec<ProblemLine>,
+    faults: &[Fault],
+) -> Result<(), OutOfMemory>
+    ensures items { OnOk result (lines.new.items ≡ lines.old.items ++ flat_map file_lines
+        faults.now) }
+    ensures memory { Rises (IsErr result) room.old room.new }
 {
     for fault in faults {
         match *fault {
             Fault::TraceCount(count, traces) => {
-                lines.push(ProblemLine::TraceCount(count, traces))?;
+                room.told_back(lines.push(ProblemLine::TraceCount(count, traces)))?;
             }
-            Fault::TextLines(count) => lines.push(ProblemLine::TextLines(count))?,
+            Fault::TextLines(count) => room.told_back(lines.push(ProblemLine::TextLines(count)))?,
             _ => (),
         }
     }
@@ -85,16 +116,18 @@ pub(crate) fn push_of_file(lines: &mut Vec<ProblemLine>, faults: &[Fault]) -> Re
 /// Puts the inlines that are missing behind others, with the first runs of them, where there are
 /// any. Takes memory.
 pub(crate) fn push_missing_inlines(
+    room: &mut Room,
     lines: &mut Vec<ProblemLine>,
     found: Option<MissingLines>,
-) -> Result<(), AllocError>
-    ensures { OnOk result (lines.new.items ≡ lines.old.items
+) -> Result<(), OutOfMemory>
+    ensures items { OnOk result (lines.new.items ≡ lines.old.items
         ++ missing_lines problem_lines.MissingInlines (option_map told found)) }
+    ensures memory { Rises (IsErr result) room.old room.new }
 {
     match found {
         Some(found) => {
             let head = ProblemLine::MissingInlines(found.missing, found.runs);
-            push_missing(lines, head, &found)
+            push_missing(room, lines, head, &found)
         }
         None => Ok(()),
     }
@@ -102,16 +135,18 @@ pub(crate) fn push_missing_inlines(
 
 /// The same of crosslines.
 pub(crate) fn push_missing_crosslines(
+    room: &mut Room,
     lines: &mut Vec<ProblemLine>,
     found: Option<MissingLines>,
-) -> Result<(), AllocError>
-    ensures { OnOk result (lines.new.items ≡ lines.old.items
+) -> Result<(), OutOfMemory>
+    ensures items { OnOk result (lines.new.items ≡ lines.old.items
         ++ missing_lines problem_lines.MissingCrosslines (option_map told found)) }
+    ensures memory { Rises (IsErr result) room.old room.new }
 {
     match found {
         Some(found) => {
             let head = ProblemLine::MissingCrosslines(found.missing, found.runs);
-            push_missing(lines, head, &found)
+            push_missing(room, lines, head, &found)
         }
         None => Ok(()),
     }
@@ -119,69 +154,82 @@ pub(crate) fn push_missing_crosslines(
 
 // A line, and behind it the first runs of what is missing.
 fn push_missing(
+    room: &mut Room,
     lines: &mut Vec<ProblemLine>,
     head: ProblemLine,
     found: &MissingLines,
-) -> Result<(), AllocError>
-    ensures { OnOk result (lines.new.items ≡ lines.old.items
+) -> Result<(), OutOfMemory>
+    ensures items { OnOk result (lines.new.items ≡ lines.old.items
         ++ head ∷ map problem_lines.Missing (told found.now).first_runs) }
+    ensures memory { Rises (IsErr result) room.old room.new }
 {
-    lines.push(head)?;
+    room.told_back(lines.push(head))?;
     let runs = found.first_runs.as_slice();
     for run in runs {
-        lines.push(ProblemLine::Missing(*run))?;
+        room.told_back(lines.push(ProblemLine::Missing(*run)))?;
     }
     Ok(())
 }
 
 /// S1, where the traces have no survey numbers. Takes memory.
 pub(crate) fn push_no_survey(
+    room: &mut Room,
     lines: &mut Vec<ProblemLine>,
     found: Option<NoSurvey>,
-) -> Result<(), AllocError>
-    ensures { OnOk result (lines.new.items ≡ lines.old.items ++ no_survey_lines found) }
+) -> Result<(), OutOfMemory>
+    ensures items { OnOk result (lines.new.items ≡ lines.old.items ++ no_survey_lines found) }
+    ensures memory { Rises (IsErr result) room.old room.new }
 {
     if let Some(found) = found {
-        lines.push(ProblemLine::NoSurvey(found))?;
+        room.told_back(lines.push(ProblemLine::NoSurvey(found)))?;
     }
     Ok(())
 }
 
 /// S9, where a few cells have another fold. Takes memory.
 pub(crate) fn push_fold(
+    room: &mut Room,
     lines: &mut Vec<ProblemLine>,
     found: Option<UnevenFold>,
-) -> Result<(), AllocError>
-    ensures { OnOk result (lines.new.items ≡ lines.old.items ++ fold_lines found) }
+) -> Result<(), OutOfMemory>
+    ensures items { OnOk result (lines.new.items ≡ lines.old.items ++ fold_lines found) }
+    ensures memory { Rises (IsErr result) room.old room.new }
 {
     if let Some(found) = found {
-        lines.push(ProblemLine::Fold(found))?;
+        room.told_back(lines.push(ProblemLine::Fold(found)))?;
     }
     Ok(())
 }
 
 /// S10 and the first traces of the first cells whose positions jump, where any do. Takes memory.
 pub(crate) fn push_jumps(
+    room: &mut Room,
     lines: &mut Vec<ProblemLine>,
     found: Option<Jumps>,
-) -> Result<(), AllocError>
-    ensures { OnOk result (lines.new.items ≡ lines.old.items
+) -> Result<(), OutOfMemory>
+    ensures items { OnOk result (lines.new.items ≡ lines.old.items
         ++ jump_lines (option_map told_jumps found)) }
+    ensures memory { Rises (IsErr result) room.old room.new }
 {
     match found {
-        Some(found) => push_each_jump(lines, &found),
+        Some(found) => push_each_jump(room, lines, &found),
         None => Ok(()),
     }
 }
 
-fn push_each_jump(lines: &mut Vec<ProblemLine>, found: &Jumps) -> Result<(), AllocError>
-    ensures { OnOk result (lines.new.items ≡ lines.old.items
+fn push_each_jump(
+    room: &mut Room,
+    lines: &mut Vec<ProblemLine>,
+    found: &Jumps,
+) -> Result<(), OutOfMemory>
+    ensures items { OnOk result (lines.new.items ≡ lines.old.items
         ++ jump_lines (Some (told_jumps found.now))) }
+    ensures memory { Rises (IsErr result) room.old room.new }
 {
-    lines.push(ProblemLine::Jumps(found.pairs, found.jumps))?;
+    room.told_back(lines.push(ProblemLine::Jumps(found.pairs, found.jumps)))?;
     let pairs = found.first_jumps.as_slice();
     for pair in pairs {
-        lines.push(ProblemLine::Jump(*pair))?;
+        room.told_back(lines.push(ProblemLine::Jump(*pair)))?;
     }
     Ok(())
 }
@@ -189,26 +237,33 @@ fn push_each_jump(lines: &mut Vec<ProblemLine>, found: &Jumps) -> Result<(), All
 /// S11 and the first traces of the first cells that stand where one before them does, where any do.
 /// Takes memory.
 pub(crate) fn push_shared(
+    room: &mut Room,
     lines: &mut Vec<ProblemLine>,
     found: Option<SharedPositions>,
-) -> Result<(), AllocError>
-    ensures { OnOk result (lines.new.items ≡ lines.old.items
+) -> Result<(), OutOfMemory>
+    ensures items { OnOk result (lines.new.items ≡ lines.old.items
         ++ shared_lines (option_map told_shared found)) }
+    ensures memory { Rises (IsErr result) room.old room.new }
 {
     match found {
-        Some(found) => push_each_shared(lines, &found),
+        Some(found) => push_each_shared(room, lines, &found),
         None => Ok(()),
     }
 }
 
-fn push_each_shared(lines: &mut Vec<ProblemLine>, found: &SharedPositions) -> Result<(), AllocError>
-    ensures { OnOk result (lines.new.items ≡ lines.old.items
+fn push_each_shared(
+    room: &mut Room,
+    lines: &mut Vec<ProblemLine>,
+    found: &SharedPositions,
+) -> Result<(), OutOfMemory>
+    ensures items { OnOk result (lines.new.items ≡ lines.old.items
         ++ shared_lines (Some (told_shared found.now))) }
+    ensures memory { Rises (IsErr result) room.old room.new }
 {
-    lines.push(ProblemLine::SharedPositions(found.cells))?;
+    room.told_back(lines.push(ProblemLine::SharedPositions(found.cells)))?;
     let pairs = found.first_cells.as_slice();
     for pair in pairs {
-        lines.push(ProblemLine::SharedPosition(*pair))?;
+        room.told_back(lines.push(ProblemLine::SharedPosition(*pair)))?;
     }
     Ok(())
 }

@@ -1,5 +1,6 @@
 // What is doubtful in the positions of cells, and the answer of the query for the survey's grid.
-ghost use Rattle.std.specs.Prelude.{◌≡◌, ◌++◌, ◌<◌, ◌^◌, [], length, map, IfErr, OnOk, if◌then◌else◌};
+ghost use Rattle.std.specs.Prelude.{◌≡◌, ◌++◌, ◌<◌, ◌^◌, [], length, map, IfErr, OnOk, if◌then◌else◌, IsErrOf};
+ghost use Rattle.room.specs.Refusals.{Rises};
 ghost use Rattle.trace_record.specs.Facts.{facts_of};
 ghost use Rattle.trace_record.specs.Packed.{record_in};
 ghost use Rattle.trace_record.specs.Tally.{Same, tally_of};
@@ -18,13 +19,13 @@ use bench_rules::{Answer, AskFault, ProblemLine};
 use edit_overlay::Overlay;
 use grid_live::{Grid, Line};
 use record_table::Records;
-use std::alloc::Global;
+use room::Room;
 use survey_cells::{find_cells, position_jumps, shared_positions, survey_grid};
 use trace_record::PackedRecord;
 
-/// S10 and S11, where the traces have survey numbers. Takes memory for the cells and the lines.
+/// S10 and S11, where the traces have survey numbers. Takes memory for the cells and what it finds.
 pub(crate) fn push_of_positions(
-    alloc: Global,
+    room: &mut Room,
     lines: &mut Vec<ProblemLine>,
     records: &Records,
     inlines: &[Line],
@@ -38,35 +39,38 @@ pub(crate) fn push_of_positions(
     ensures ok { OnOk result (lines.new.items ≡ lines.old.items
         ++ (if is_lone then [] else position_problems shots (map facts_of records.now))) }
     ensures err { IfErr result (λ fault. fault ≡ no_memory) }
+    ensures memory { Rises (IsErrOf result AskFault.OutOfMemory) room.old room.new }
 {
     if is_lone {
         return Ok(());
     }
-    let cells = find_cells(alloc, records)?;
-    let jumps = position_jumps(alloc, cells.as_slice(), inlines, crosslines, shots)?;
-    push_jumps(lines, jumps)?;
-    push_shared(lines, shared_positions(alloc, cells, shots)?)?;
+    let cells = find_cells(room, records)?;
+    let jumps = position_jumps(room, cells.as_slice(), inlines, crosslines, shots)?;
+    push_jumps(room, lines, jumps)?;
+    let found = shared_positions(room, cells, shots)?;
+    push_shared(room, lines, found)?;
     Ok(())
 }
 
 /// The grid of the survey in one line. Looks at no trace. Takes memory for the cells, the lines and
 /// the differences of positions while it is made; refused for want of it alone, E11.
 pub fn survey_answer(
-    alloc: Global,
+    room: &mut Room,
     overlay: &Overlay<PackedRecord>,
     grid: &Grid,
 ) -> Result<Answer, AskFault>
     requires few { length overlay.now.payloads < 2 ^ 32 }
     requires grid { Same (tally_of_grid grid.now) (tally_of keys_of_grid
         (map facts_of (map record_in overlay.now.payloads))) }
-    ensures { (s : State) → AreRecordsOf s (map record_in overlay.now.payloads) →
+    ensures reply { (s : State) → AreRecordsOf s (map record_in overlay.now.payloads) →
         IsReply s queries.Survey result }
+    ensures memory { Rises (IsErrOf result AskFault.OutOfMemory) room.old room.new }
 {
     let records = Records::new(overlay.payloads());
-    let inlines = grid.inlines(alloc)?;
-    let crosslines = grid.crosslines(alloc)?;
-    let cells = find_cells(alloc, &records)?;
+    let inlines = grid.inlines(room)?;
+    let crosslines = grid.crosslines(room)?;
+    let cells = find_cells(room, &records)?;
     let cells = cells.as_slice();
-    let grid = survey_grid(alloc, cells, inlines.as_slice(), crosslines.as_slice())?;
+    let grid = survey_grid(room, cells, inlines.as_slice(), crosslines.as_slice())?;
     Ok(Answer::Survey(grid))
 }

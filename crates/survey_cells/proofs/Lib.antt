@@ -10,3 +10,6 @@ pub mod NumberLemmas
 pub mod HeldLemmas
 pub mod FarLemmas
 pub mod WholeLemmas
+pub mod AloneLemmas
+pub mod GroupLemmas
+pub mod LatelyLemmas

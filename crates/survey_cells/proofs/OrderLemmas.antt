@@ -71,11 +71,11 @@ module _ {X : Type 0} (cmp : X → X → Ordering) (total : IsTotalOrder cmp) wh
         | false ↦ IsPermutation-refl _
       ]
 
-  IsPermutation-in_order : (xs : List X) → IsPermutation (in_order cmp xs) xs
+  pub IsPermutation-in_order : (xs : List X) → IsPermutation (in_order cmp xs) xs
   IsPermutation-in_order [] = IsPermutation-refl []
   IsPermutation-in_order (x ∷ xs) = IsPermutation-trans _ _ _ (IsPermutation-put_in x _) (IsPermutation-cons x _ _ (IsPermutation-in_order xs))
 
-  both : (x y : X) → AtMost x y → AtMost y x → cmp x y ≡ Equal
+  pub both : (x y : X) → AtMost x y → AtMost y x → cmp x y ≡ Equal
   both x y p q = go (cmp x y) refl
     where
       go : (o : Ordering) → cmp x y ≡ o → cmp x y ≡ Equal

@@ -17,7 +17,7 @@ use Rattle.survey_cells.specs.Standing.{standing_in}
 use Rattle.survey_cells.proofs.OrderLemmas.{sorted_is}
 use Rattle.survey_cells.proofs.CellLemmas.{sorted-map}
 
-placed_total : IsTotalOrder placed_cmp
+pub placed_total : IsTotalOrder placed_cmp
 placed_total = then_total (on_total (λ (p : PlacedCell). p.x) ratio_total) (then_total (on_total (λ (p : PlacedCell). p.y) ratio_total) (on_total (λ (p : PlacedCell). p.trace) nat_cmp_total))
 
 placed_with : Ratio × (Ratio × ℕ) → PlacedCell

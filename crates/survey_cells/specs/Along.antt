@@ -18,7 +18,8 @@ jumps_among cs apart u n = is_jump u (difference_ahead cs apart n) n.difference 
 abbrev pub jump_traces : List SurveyCell → ℤ × ℤ → Difference → List TracePair
 jump_traces cs apart u = map (λ n. traces_of (pair_in n)) (filter (jumps_among cs apart u) (filter_map (neighbours_from cs apart) cs))
 
--- how many pairs lie so many apart, and the first traces of those that jump; without a step, or a pair, nothing
+-- how many pairs of cells that have positions lie so many apart, and the first traces of those that jump, where the usual difference is the commonest;
+-- without a step, or a pair, nothing
 abbrev pub held_along : List SurveyCell → Option (ℤ × ℤ) → ℕ × List TracePair
 held_along cs step =
     option_map_or (λ apart. option_map_or (λ u. (length (differences cs apart), jump_traces cs apart u)) (commonest (differences cs apart)) (0, [])) step (0, [])

@@ -13,7 +13,7 @@ use Rattle.survey_cells.specs.Neighbours.{differences}
 abbrev pub usual_held : List SurveyCell → Option (ℤ × ℤ) → Option Difference
 usual_held cs step = option_and_then (λ apart. commonest (differences cs apart)) step
 
--- how many cells have an inline and a crossline among these
+-- how many cells have an inline between the first and the last of these inlines, and a crossline between the first and the last of these crosslines
 abbrev pub held_within : LineSpan → LineSpan → List SurveyCell → ℕ
 held_within i c cs = count_by (λ d. is_within i d.inline && is_within c d.crossline) cs
 

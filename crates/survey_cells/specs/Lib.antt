@@ -3,3 +3,5 @@ pub mod Neighbours
 pub mod Along
 pub mod Standing
 pub mod Grid
+pub mod Groups
+pub mod Lately

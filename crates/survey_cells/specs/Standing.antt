@@ -1,4 +1,4 @@
--- Cells that are held with positions, by these.
+-- Which of the cells that are held have positions, and these as `cell_positions` orders them.
 use Rattle.std.specs.Prelude.{pos, ◌&&◌, not, Bool}
 use Rattle.std.specs.Ordering.{int_eq}
 use Rattle.key_counts.specs.Packed.{ratio_in}

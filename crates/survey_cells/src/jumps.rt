@@ -1,5 +1,6 @@
-ghost use Rattle.std.specs.Prelude.{◌≡◌, ◌<◌, ◌≤◌, ◌^◌, ◌++◌, List, Option, None, IfOk, OnOk, length, option_map, option_and_then, if◌then◌else◌};
+ghost use Rattle.std.specs.Prelude.{◌≡◌, ◌<◌, ◌≤◌, ◌^◌, ◌++◌, List, Option, None, IfOk, OnOk, length, option_map, option_and_then, if◌then◌else◌, IsErr};
 ghost use Rattle.std.specs.List.{list_any};
+ghost use Rattle.room.specs.Refusals.{Rises};
 ghost use Rattle.grid_live.specs.Cells.{inlines as inlines_of, crosslines as crosslines_of};
 ghost use Rattle.line_problems.specs.LineSpans.{span_of};
 ghost use Rattle.position_differences.specs.Differences.{is_far as lies_far};
@@ -15,21 +16,21 @@ use crate::lines::{crosslines_apart, inlines_apart};
 use crate::pairs::{
     Neighbours, Walk, count_differences, difference_ahead, difference_behind, neighbours_from,
 };
-use cell_positions::{Jumps, MOST_PAIRS, OutOfMemory, TracePair};
+use crate::times::Times;
+use cell_positions::{Jumps, MOST_PAIRS, TracePair};
 use grid_live::Line;
-use key_counts::Counts;
 use line_problems::line_span;
-use position_differences::{Difference, commonest_difference, is_far, is_jump};
-use std::alloc::Global;
+use position_differences::{Difference, is_far, is_jump};
+use room::{OutOfMemory, Room};
 use std::collections::btree_map::Iter;
 
 /// The pairs of cells one commonest step of the inlines apart, or of the crosslines, whose
 /// positions differ otherwise than those of most such pairs and than those beside them on their
 /// line; nothing where none does. In a file of shots the pairs of neighbouring inlines alone count.
-/// Takes memory for the differences that occur and for the pairs that jump; refused for want of it
-/// alone.
+/// Takes 16 bytes a line, and memory for the differences that occur and for the pairs that jump;
+/// refused for want of it alone.
 pub fn position_jumps(
-    alloc: Global,
+    room: &mut Room,
     cells: &[SurveyCell],
     inlines: &[Line],
     crosslines: &[Line],
@@ -37,30 +38,32 @@ pub fn position_jumps(
 ) -> Result<Option<Jumps>, OutOfMemory>
     requires rise { HeldRise cells.now }
     requires few { length cells.now < 2 ^ 63 }
-    ensures { (fs : List _) → AreCellsOf fs cells.now →
+    ensures jumps { (fs : List _) → AreCellsOf fs cells.now →
         inlines.now ≡ inlines_of fs → crosslines.now ≡ crosslines_of fs →
         IfOk result (λ jumps. option_map told jumps ≡ jumps_of shots fs) }
+    ensures memory { Rises (IsErr result) room.old room.new }
 {
-    let inlines = inline_step(alloc, inlines)?;
-    let crosslines = crossline_step(alloc, crosslines, shots)?;
-    find_jumps(alloc, cells, inlines, crosslines)
+    let inlines = inline_step(room, inlines)?;
+    let crosslines = crossline_step(room, crosslines, shots)?;
+    find_jumps(room, cells, inlines, crosslines)
 }
 
 // The jumps at a step along the inlines and at one along the crosslines.
 fn find_jumps(
-    alloc: Global,
+    room: &mut Room,
     cells: &[SurveyCell],
     inlines: Option<(i64, i64)>,
     crosslines: Option<(i64, i64)>,
 ) -> Result<Option<Jumps>, OutOfMemory>
     requires rise { HeldRise cells.now }
     requires few { length cells.now < 2 ^ 63 }
-    ensures { IfOk result (λ jumps. option_map told jumps ≡
+    ensures jumps { IfOk result (λ jumps. option_map told jumps ≡
         told_of_both (held_along cells.now inlines) (held_along cells.now crosslines)) }
+    ensures memory { Rises (IsErr result) room.old room.new }
 {
-    let mut traces = Vec::new(alloc);
-    let pairs = add_along(alloc, cells, inlines, &mut traces)?;
-    let others = add_along(alloc, cells, crosslines, &mut traces)?;
+    let mut traces = Vec::new(room.alloc());
+    let pairs = add_along(room, cells, inlines, &mut traces)?;
+    let others = add_along(room, cells, crosslines, &mut traces)?;
     traces.sort_unstable();
     Ok(tell(pairs + others, traces))
 }
@@ -82,11 +85,12 @@ fn tell(pairs: u64, mut traces: Vec<TracePair>) -> Option<Jumps>
 }
 
 // The step from an inline to the next.
-fn inline_step(alloc: Global, inlines: &[Line]) -> Result<Option<(i64, i64)>, OutOfMemory>
-    ensures { IfOk result (λ step. step ≡
+fn inline_step(room: &mut Room, inlines: &[Line]) -> Result<Option<(i64, i64)>, OutOfMemory>
+    ensures step { IfOk result (λ step. step ≡
         option_and_then inlines_apart_of (span_of inlines.now)) }
+    ensures memory { Rises (IsErr result) room.old room.new }
 {
-    match line_span(alloc, inlines)? {
+    match line_span(room, inlines)? {
         Some(span) => Ok(inlines_apart(&span)),
         None => Ok(None),
     }
@@ -94,17 +98,18 @@ fn inline_step(alloc: Global, inlines: &[Line]) -> Result<Option<(i64, i64)>, Ou
 
 // The step from a crossline to the next, but in a file of shots.
 fn crossline_step(
-    alloc: Global,
+    room: &mut Room,
     crosslines: &[Line],
     shots: bool,
 ) -> Result<Option<(i64, i64)>, OutOfMemory>
-    ensures { IfOk result (λ step. step ≡ (if shots then None
+    ensures step { IfOk result (λ step. step ≡ (if shots then None
         else option_and_then crosslines_apart_of (span_of crosslines.now))) }
+    ensures memory { Rises (IsErr result) room.old room.new }
 {
     if shots {
         return Ok(None);
     }
-    match line_span(alloc, crosslines)? {
+    match line_span(room, crosslines)? {
         Some(span) => Ok(crosslines_apart(&span)),
         None => Ok(None),
     }
@@ -112,7 +117,7 @@ fn crossline_step(
 
 // Puts the pairs at this step that jump behind the others, and tells how many pairs there are.
 fn add_along(
-    alloc: Global,
+    room: &mut Room,
     cells: &[SurveyCell],
     step: Option<(i64, i64)>,
     traces: &mut Vec<TracePair>,
@@ -122,36 +127,39 @@ fn add_along(
     ensures jumps { OnOk result (traces.new.items ≡
         traces.old.items ++ (held_along cells.now step).1) }
     ensures few { IfOk result (λ n. n ≤ length cells.now) }
+    ensures memory { Rises (IsErr result) room.old room.new }
 {
     let Some(apart) = step else {
         return Ok(0);
     };
-    let walked = count_differences(alloc, cells, apart)?;
-    let Some(usual) = commonest_difference(&walked.counts) else {
+    let walked = count_differences(room, cells, apart)?;
+    let Some(usual) = walked.counts.commonest() else {
         return Ok(0);
     };
-    add_jumps(cells, apart, &walked.counts, &usual, traces)?;
+    add_jumps(room, cells, apart, &walked.counts, &usual, traces)?;
     Ok(walked.pairs)
 }
 
 // Puts the pairs that jump behind the others. Where none of the differences that were counted is
 // far from the usual one, no pair jumps, and they are not walked over again.
 fn add_jumps(
+    room: &mut Room,
     cells: &[SurveyCell],
     apart: (i64, i64),
-    counts: &Counts<Difference>,
+    counts: &Times,
     usual: &Difference,
     traces: &mut Vec<TracePair>,
 ) -> Result<(), OutOfMemory>
     requires rise { HeldRise cells.now }
     requires counted { AreCounted counts.now (differences cells.now apart) }
-    ensures { OnOk result (traces.new.items ≡
+    ensures jumps { OnOk result (traces.new.items ≡
         traces.old.items ++ jump_traces cells.now apart usual.now) }
+    ensures memory { Rises (IsErr result) room.old room.new }
 {
     if !any_far(counts.pairs(), usual) {
         return Ok(());
     }
-    add_each_jump(cells, apart, usual, traces)
+    add_each_jump(room, cells, apart, usual, traces)
 }
 
 // Whether one of these differences is far from another.
@@ -168,20 +176,22 @@ fn any_far(pairs: Iter<'_, Difference, u64>, other: &Difference) -> bool
 
 // The same, by a walk over all pairs.
 fn add_each_jump(
+    room: &mut Room,
     cells: &[SurveyCell],
     apart: (i64, i64),
     usual: &Difference,
     traces: &mut Vec<TracePair>,
 ) -> Result<(), OutOfMemory>
     requires { HeldRise cells.now }
-    ensures { OnOk result (traces.new.items ≡
+    ensures jumps { OnOk result (traces.new.items ≡
         traces.old.items ++ jump_traces cells.now apart usual.now) }
+    ensures memory { Rises (IsErr result) room.old room.new }
 {
     let mut walk = Walk::from(0);
     for cell in cells {
         if let Some(pair) = neighbours_from(cells, apart, cell, &mut walk) {
             if jumps_among(cells, apart, usual, &pair) {
-                traces.push(traces_of(&pair))?;
+                room.told_back(traces.push(traces_of(&pair)))?;
             }
         }
     }

@@ -1,15 +1,15 @@
 // Pairs of cells that are neighbours on a line.
-ghost use Rattle.std.specs.Prelude.{◌≡◌, ◌<◌, ◌≤◌, ◌+ℤ◌, ◌-ℤ◌, ◌&&◌, IfOk, IfErr, IfSome, Some, None, length, slice_index_or};
+ghost use Rattle.std.specs.Prelude.{◌≡◌, ◌<◌, ◌≤◌, ◌+ℤ◌, ◌-ℤ◌, ◌&&◌, IfOk, IfErr, IfSome, Some, None, length, slice_index_or, IsErr};
 ghost use Rattle.std.specs.Ordering.{int_eq};
+ghost use Rattle.room.specs.Refusals.{Rises};
 ghost use Rattle.position_differences.specs.Commonest.{AreCounted};
 ghost use Rattle.survey_cells.specs.Held.{HeldRise};
 ghost use Rattle.survey_cells.specs.Neighbours.{held_at, held_beyond, difference_in, difference_beyond as difference_beyond_of, differences, neighbours_from as neighbours_from_of, difference_ahead as difference_ahead_of};
 
 use crate::cells::SurveyCell;
-use cell_positions::OutOfMemory;
-use key_counts::Counts;
+use crate::times::{Times, count_difference, count_lately, places_for_differences};
 use position_differences::{Difference, LastDifferences, difference_between};
-use std::alloc::Global;
+use room::{OutOfMemory, Room};
 
 // Two cells that are neighbours on a line, and how far the second one's position lies above the
 // first one's.
@@ -24,7 +24,7 @@ pub(crate) struct Neighbours {
 #[derive(Drop)]
 pub(crate) struct Walked {
     pub pairs: u64,
-    pub counts: Counts<Difference>,
+    pub counts: Times,
 }
 
 // Where a cell is looked for first, and the differences that came last. Both move on with each
@@ -50,7 +50,7 @@ impl Walk {
 // The pairs of cells that lie so many inlines and crosslines apart. Takes memory for the
 // differences that occur.
 pub(crate) fn count_differences(
-    alloc: Global,
+    room: &mut Room,
     cells: &[SurveyCell],
     apart: (i64, i64),
 ) -> Result<Walked, OutOfMemory>
@@ -59,20 +59,24 @@ pub(crate) fn count_differences(
     ensures few { IfOk result (λ walked. walked.pairs ≤ length cells.now) }
     ensures counts { IfOk result (λ walked. AreCounted walked.counts
         (differences cells.now apart)) }
+    ensures memory { Rises (IsErr result) room.old room.new }
 {
     let mut pairs = 0;
-    let mut counts = Counts::new(alloc);
+    let mut counts = Times::new(room.alloc());
+    let mut lately = places_for_differences();
     let mut walk = Walk::from(0);
     for cell in cells {
         if let Some(difference) = difference_beyond(cells, apart, cell, &mut walk) {
-            counts.raise(difference)?;
+            count_difference(room, &mut lately, &mut counts, difference)?;
             pairs += 1;
         }
     }
+    count_lately(room, &lately, &mut counts)?;
     Ok(Walked { pairs, counts })
 }
 
 // The difference of the pair that begins at a cell.
+#[inline]
 pub(crate) fn difference_beyond(
     cells: &[SurveyCell],
     apart: (i64, i64),
@@ -134,6 +138,7 @@ pub(crate) fn difference_ahead(
 }
 
 // How far the second cell's position lies above the first's.
+#[inline]
 fn difference_of(
     first: &SurveyCell,
     second: &SurveyCell,
@@ -147,7 +152,8 @@ fn difference_of(
 }
 
 // The cell that lies so many beyond another. The cursor is where to look first, and moves behind
-// it.
+// it: there most are found.
+#[inline]
 fn find_beyond(
     cells: &[SurveyCell],
     apart: (i64, i64),
@@ -161,6 +167,19 @@ fn find_beyond(
         *cursor = cursor.saturating_add(1);
         return Some(cell);
     }
+    search_beyond(cells, apart, first, cursor)
+}
+
+// The same, looked for among all.
+fn search_beyond(
+    cells: &[SurveyCell],
+    apart: (i64, i64),
+    first: &SurveyCell,
+    cursor: &mut usize,
+) -> Option<SurveyCell>
+    requires { HeldRise cells.now }
+    ensures { result ≡ held_beyond cells.now apart first.now }
+{
     match find_place(cells, &place_beyond(first, apart)) {
         Ok(i) => {
             *cursor = i.saturating_add(1);

@@ -1,4 +1,5 @@
-ghost use Rattle.std.specs.Prelude.{◌≡◌, List, IfOk, map, filter, option_map};
+ghost use Rattle.std.specs.Prelude.{◌≡◌, List, IfOk, map, filter, option_map, IsErr};
+ghost use Rattle.room.specs.Refusals.{Rises};
 ghost use Rattle.cell_positions.specs.InOrder.{in_order};
 ghost use Rattle.cell_positions.specs.Jumps.{trace_pair_cmp};
 ghost use Rattle.cell_positions.specs.Shared.{placed_cmp, at_one_position as at_one_position_of, sharing as sharing_of, shared_told, shared_of, told_shared};
@@ -6,24 +7,26 @@ ghost use Rattle.survey_cells.specs.Held.{AreCellsOf};
 ghost use Rattle.survey_cells.specs.Standing.{is_standing as is_standing_of, standing_in};
 
 use crate::cells::SurveyCell;
-use cell_positions::{MOST_PAIRS, OutOfMemory, SharedPositions, TracePair};
-use std::alloc::Global;
+use crate::groups::keep_crowded;
+use cell_positions::{MOST_PAIRS, SharedPositions, TracePair};
+use room::{OutOfMemory, Room};
 
 /// The cells whose position a cell before them has, too; nothing where none has, and in a file of
-/// shots. Takes memory for those that it finds alone, since it sorts these cells; refused for want
+/// shots. Takes 4 bytes a cell while it looks, and memory for those that it finds; refused for want
 /// of it alone.
 pub fn shared_positions(
-    alloc: Global,
+    room: &mut Room,
     cells: Vec<SurveyCell>,
     shots: bool,
 ) -> Result<Option<SharedPositions>, OutOfMemory>
-    ensures { (fs : List _) → AreCellsOf fs cells.items →
+    ensures shared { (fs : List _) → AreCellsOf fs cells.items →
         IfOk result (λ shared. option_map told_shared shared ≡ shared_of shots fs) }
+    ensures memory { Rises (IsErr result) room.old room.new }
 {
     if shots {
         return Ok(None);
     }
-    let pairs = find_shared(alloc, cells)?;
+    let pairs = find_shared(room, cells)?;
     Ok(tell(pairs))
 }
 
@@ -43,13 +46,15 @@ fn tell(mut pairs: Vec<TracePair>) -> Option<SharedPositions>
 }
 
 // Those that stand where a cell before them does, in order.
-fn find_shared(alloc: Global, mut cells: Vec<SurveyCell>) -> Result<Vec<TracePair>, OutOfMemory>
-    ensures { IfOk result (λ pairs. pairs.items ≡ in_order trace_pair_cmp (sharing_of
+fn find_shared(room: &mut Room, mut cells: Vec<SurveyCell>) -> Result<Vec<TracePair>, OutOfMemory>
+    ensures pairs { IfOk result (λ pairs. pairs.items ≡ in_order trace_pair_cmp (sharing_of
         (in_order placed_cmp (map standing_in (filter is_standing_of cells.items))))) }
+    ensures memory { Rises (IsErr result) room.old room.new }
 {
     cells.retain(|c| is_standing(c));
+    keep_crowded(room, &mut cells)?;
     cells.sort_unstable_by_key(|c| (c.x, (c.y, c.trace)));
-    let mut pairs = sharing(alloc, &cells)?;
+    let mut pairs = sharing(room, &cells)?;
     pairs.sort_unstable();
     Ok(pairs)
 }
@@ -63,20 +68,21 @@ fn is_standing(cell: &SurveyCell) -> bool
 }
 
 // Of cells in order each that stands where an earlier one does, with the first one there.
-fn sharing(alloc: Global, cells: &[SurveyCell]) -> Result<Vec<TracePair>, OutOfMemory>
-    ensures { IfOk result (λ pairs. pairs.items ≡ sharing_of (map standing_in cells.now)) }
+fn sharing(room: &mut Room, cells: &[SurveyCell]) -> Result<Vec<TracePair>, OutOfMemory>
+    ensures pairs { IfOk result (λ pairs. pairs.items ≡ sharing_of (map standing_in cells.now)) }
+    ensures memory { Rises (IsErr result) room.old room.new }
 {
-    let mut pairs = Vec::new(alloc);
+    let mut pairs = Vec::new(room.alloc());
     let Some((first, others)) = cells.split_first() else {
         return Ok(pairs);
     };
     let mut last = *first;
     for cell in others {
         if at_one_position(&last, cell) {
-            pairs.push(TracePair {
+            room.told_back(pairs.push(TracePair {
                 later: cell.trace,
                 earlier: last.trace,
-            })?;
+            }))?;
         } else {
             last = *cell;
         }

@@ -1,4 +1,5 @@
-ghost use Rattle.std.specs.Prelude.{◌≡◌, ◌<◌, ◌≤◌, ◌^◌, ◌/◌, ◌-ℤ◌, List, IfOk, unsigned_abs};
+ghost use Rattle.std.specs.Prelude.{◌≡◌, ◌<◌, ◌≤◌, ◌^◌, ◌/◌, ◌-ℤ◌, List, IfOk, unsigned_abs, IsErr};
+ghost use Rattle.room.specs.Refusals.{Rises};
 ghost use Rattle.grid_live.specs.Cells.{inlines as inlines_of, crosslines as crosslines_of};
 ghost use Rattle.cell_positions.specs.Survey.{is_within as is_within_of, lines_in as lines_in_of, survey_of};
 ghost use Rattle.survey_cells.specs.Held.{HeldRise, AreCellsOf};
@@ -7,48 +8,50 @@ ghost use Rattle.survey_cells.specs.Grid.{usual_held, held_within, grid_in};
 use crate::cells::SurveyCell;
 use crate::lines::{crosslines_apart, inlines_apart};
 use crate::pairs::count_differences;
-use cell_positions::{OutOfMemory, SurveyGrid};
+use cell_positions::SurveyGrid;
 use grid_live::Line;
 use line_problems::{LineSpan, line_span};
-use position_differences::{Difference, commonest_difference};
-use std::alloc::Global;
+use position_differences::Difference;
+use room::{OutOfMemory, Room};
 
 /// The grid of the survey that has these cells, inlines and crosslines; nothing where there is no
 /// trace. Takes 16 bytes a line, and memory for the differences that occur; refused for want of it
 /// alone.
 pub fn survey_grid(
-    alloc: Global,
+    room: &mut Room,
     cells: &[SurveyCell],
     inlines: &[Line],
     crosslines: &[Line],
 ) -> Result<Option<SurveyGrid>, OutOfMemory>
     requires { HeldRise cells.now }
-    ensures { (fs : List _) → AreCellsOf fs cells.now →
+    ensures grid { (fs : List _) → AreCellsOf fs cells.now →
         inlines.now ≡ inlines_of fs → crosslines.now ≡ crosslines_of fs →
         IfOk result (λ grid. grid ≡ survey_of fs) }
+    ensures memory { Rises (IsErr result) room.old room.new }
 {
-    let Some(inline) = line_span(alloc, inlines)? else {
+    let Some(inline) = line_span(room, inlines)? else {
         return Ok(None);
     };
-    let Some(crossline) = line_span(alloc, crosslines)? else {
+    let Some(crossline) = line_span(room, crosslines)? else {
         return Ok(None);
     };
-    let grid = grid_of(alloc, cells, &inline, &crossline)?;
+    let grid = grid_of(room, cells, &inline, &crossline)?;
     Ok(Some(grid))
 }
 
 // The grid of the cells, where the lines are these.
 fn grid_of(
-    alloc: Global,
+    room: &mut Room,
     cells: &[SurveyCell],
     inline: &LineSpan,
     crossline: &LineSpan,
 ) -> Result<SurveyGrid, OutOfMemory>
     requires { HeldRise cells.now }
-    ensures { IfOk result (λ grid. grid ≡ grid_in cells.now inline.now crossline.now) }
+    ensures grid { IfOk result (λ grid. grid ≡ grid_in cells.now inline.now crossline.now) }
+    ensures memory { Rises (IsErr result) room.old room.new }
 {
-    let along_inline = usual_along(alloc, cells, inlines_apart(inline))?;
-    let along_crossline = usual_along(alloc, cells, crosslines_apart(crossline))?;
+    let along_inline = usual_along(room, cells, inlines_apart(inline))?;
+    let along_crossline = usual_along(room, cells, crosslines_apart(crossline))?;
     Ok(SurveyGrid {
         inline: *inline,
         crossline: *crossline,
@@ -61,21 +64,22 @@ fn grid_of(
 
 // The commonest difference of cells that are one step apart.
 fn usual_along(
-    alloc: Global,
+    room: &mut Room,
     cells: &[SurveyCell],
     step: Option<(i64, i64)>,
 ) -> Result<Option<Difference>, OutOfMemory>
     requires { HeldRise cells.now }
-    ensures { IfOk result (λ usual. usual ≡ usual_held cells.now step) }
+    ensures usual { IfOk result (λ usual. usual ≡ usual_held cells.now step) }
+    ensures memory { Rises (IsErr result) room.old room.new }
 {
     let Some(apart) = step else {
         return Ok(None);
     };
-    let walked = count_differences(alloc, cells, apart)?;
-    Ok(commonest_difference(&walked.counts))
+    let walked = count_differences(room, cells, apart)?;
+    Ok(walked.counts.commonest())
 }
 
-// How many cells have an inline and a crossline among these.
+// How many cells have an inline, and a crossline, between the first and the last of these.
 fn cells_within(inline: &LineSpan, crossline: &LineSpan, cells: &[SurveyCell]) -> u64
     ensures { result ≡ held_within inline.now crossline.now cells.now }
 {

@@ -1,4 +1,4 @@
-use Rattle.std.proofs.Common.{◌≡◌, ◌∙◌, Bool, ℤ, List, ◌++◌, [], map, ap, ap₂}
+use Rattle.std.proofs.Common.{◌≡◌, ◌∙◌, Bool, List, ◌++◌, [], map, ap, ap₂}
 use Rattle.std.specs.Prelude.{Option, is_some, if◌then◌else◌}
 use Rattle.trace_record.specs.Facts.{Facts, facts_of}
 use Rattle.fault_live.specs.Faults.{faults_of}
@@ -15,43 +15,34 @@ use Rattle.problem_answers.proofs.answers.problem_lines.Goals as goal
 
 pub push_of_survey-requires-clause-inlines : goal.push_of_survey-requires-clause-inlines
 push_of_survey-requires-clause-inlines c =
-    c.as_slice-3.ensures.value ∙ inlines_are c.args.grid.now (map facts_of c.args.records.now) c.requires.grid c.in_ok-inlines.inlines.items c.in_ok-inlines.ensures
+    c.as_slice-3.ensures.value ∙ inlines_are c.args.grid.now (map facts_of c.args.records.now) c.requires.grid c.in_ok-inlines.inlines.items c.in_ok-inlines.ensures.inlines
 
 pub push_of_survey-requires-clause-crosslines : goal.push_of_survey-requires-clause-crosslines
 push_of_survey-requires-clause-crosslines c =
-    c.as_slice-4.ensures.value ∙ crosslines_are c.args.grid.now (map facts_of c.args.records.now) c.requires.grid c.in_ok-crosslines.crosslines.items c.in_ok-crosslines.ensures
-
-pub push_of_positions-requires-clause-inlines : goal.push_of_positions-requires-clause-inlines
-push_of_positions-requires-clause-inlines c =
-    c.as_slice-5.ensures.value ∙ inlines_are c.args.grid.now (map facts_of c.args.records.now) c.requires.grid c.in_ok-inlines.inlines.items c.in_ok-inlines.ensures
-
-pub push_of_positions-requires-clause-crosslines : goal.push_of_positions-requires-clause-crosslines
-push_of_positions-requires-clause-crosslines c =
-    c.as_slice-6.ensures.value ∙ crosslines_are c.args.grid.now (map facts_of c.args.records.now) c.requires.grid c.in_ok-crosslines.crosslines.items c.in_ok-crosslines.ensures
+    c.as_slice-4.ensures.value ∙ crosslines_are c.args.grid.now (map facts_of c.args.records.now) c.requires.grid c.in_ok-crosslines.crosslines.items c.in_ok-crosslines.ensures.crosslines
 
 pub returns-clause-ok : goal.returns-clause-ok
-returns-clause-ok c =
+returns-clause-ok c = λ delays shots late doubts.
     let fs : List Facts = map facts_of c.args.records.now in
     let faults : List Fault = faults_of c.args.head.now fs in
-    let delays : List ℤ = c.args.delays.now in
     let lone : Option NoSurvey = no_survey_of (inlines fs) (crosslines fs) in
     let is : c.no_survey-lone.result ≡ lone = c.no_survey-lone.ensures
     ∙ ap₂ (λ (a b : List Line). no_survey_of a b)
-    (c.as_slice.ensures.value ∙ inlines_are c.args.grid.now fs c.requires.grid c.in_ok-inlines.inlines.items c.in_ok-inlines.ensures)
-    (c.as_slice-2.ensures.value ∙ crosslines_are c.args.grid.now fs c.requires.grid c.in_ok-crosslines.crosslines.items c.in_ok-crosslines.ensures) in
+    (c.as_slice.ensures.value ∙ inlines_are c.args.grid.now fs c.requires.grid c.in_ok-inlines.inlines.items c.in_ok-inlines.ensures.inlines)
+    (c.as_slice-2.ensures.value ∙ crosslines_are c.args.grid.now fs c.requires.grid c.in_ok-crosslines.crosslines.items c.in_ok-crosslines.ensures.crosslines) in
     let first : List ProblemLine = fault_problems faults (is_some lone) in
     let second : List ProblemLine = no_survey_lines lone in
     let third : List ProblemLine = value_problems fs delays (is_some lone) in
     let fourth : List ProblemLine = if is_some lone then [] else survey_problems fs in
     let one : c.push_faults.new.lines.items ≡ c.new-lines.result.items ++ first = c.in_ok-push_faults.ensures.ok
     ∙ ap (λ (b : Bool). c.new-lines.result.items ++ fault_problems faults b) (c.is_some.ensures ∙ ap (λ (o : Option NoSurvey). is_some o) is) in
-    let two : c.push_no_survey.new.lines.items ≡ c.push_faults.new.lines.items ++ second = c.in_ok-push_no_survey.ensures
+    let two : c.push_no_survey.new.lines.items ≡ c.push_faults.new.lines.items ++ second = c.in_ok-push_no_survey.ensures.items
     ∙ ap (λ (o : Option NoSurvey). c.push_faults.new.lines.items ++ no_survey_lines o) is in
-    let three : c.push_of_headers.new.lines.items ≡ c.push_no_survey.new.lines.items ++ third = c.in_ok-push_of_headers.ensures.ok
+    let three : c.push_of_headers.new.lines.items ≡ c.push_no_survey.new.lines.items ++ third = c.in_ok-push_of_headers.ensures.ok delays late
     ∙ ap (λ (b : Bool). c.push_no_survey.new.lines.items ++ value_problems fs delays b) (c.is_some-2.ensures ∙ ap (λ (o : Option NoSurvey). is_some o) is) in
     let four : c.push_of_survey.new.lines.items ≡ c.push_of_headers.new.lines.items ++ fourth = c.in_ok-push_of_survey.ensures.ok
     ∙ ap (λ (b : Bool). c.push_of_headers.new.lines.items ++ (if b then [] else survey_problems fs)) (c.is_some-3.ensures ∙ ap (λ (o : Option NoSurvey). is_some o) is) in
-    let five : c.push_of_positions.new.lines.items ≡ c.push_of_survey.new.lines.items ++ (if is_some lone then [] else position_problems c.args.shots fs) = c.in_ok-push_of_positions.ensures.ok
-    ∙ ap (λ (b : Bool). c.push_of_survey.new.lines.items ++ (if b then [] else position_problems c.args.shots fs)) (c.is_some-4.ensures ∙ ap (λ (o : Option NoSurvey). is_some o) is) in
-    all_lines c.args.head.now fs delays c.args.shots c.args.floats c.new-lines.result.items c.push_faults.new.lines.items c.push_no_survey.new.lines.items c.push_of_headers.new.lines.items c.push_of_survey.new.lines.items c.push_of_positions.new.lines.items c.push_of_samples.new.lines.items
+    let five : c.push_lines.new.lines.items ≡ c.push_of_survey.new.lines.items ++ (if is_some lone then [] else position_problems shots fs) = c.in_ok-push_lines.ensures.items
+    ∙ ap (λ (l : List ProblemLine). c.push_of_survey.new.lines.items ++ l) doubts in
+    all_lines c.args.head.now fs delays shots c.args.floats c.new-lines.result.items c.push_faults.new.lines.items c.push_no_survey.new.lines.items c.push_of_headers.new.lines.items c.push_of_survey.new.lines.items c.push_lines.new.lines.items c.push_of_samples.new.lines.items
     c.new-lines.ensures.items one two three four five c.in_ok-push_of_samples.ensures.ok

@@ -1,4 +1,4 @@
-use Rattle.std.proofs.Common.{◌≡◌, IsTrue, length, take, map}
+use Rattle.std.proofs.Common.{◌≡◌, IsTrue, length, take, map, ◌≤◌}
 use Rattle.edit_overlay.specs.CountedVolume.{IsSeen}
 use Rattle.bench_rules.specs.Problems.{delay_of}
 use Rattle.problem_answers.proofs.delays.delays.Given as goal
@@ -9,4 +9,5 @@ invariant-loop-k l = record {
   delays : IsTrue l.overlay.agreed → l.delays.items ≡ map (delay_of l.fn.overlay.volume.head) (take l.k l.fn.overlay.volume.traces);
   count : length l.delays.items ≡ l.k;
   seen : IsSeen l.fn.overlay l.overlay l.k;
+  memory : l.initial.room ≤ l.room;
 }

@@ -8,8 +8,8 @@ use Rattle.cell_positions.specs.declared.trace_pair.TracePair.{TracePair}
 use Rattle.survey_cells.proofs.FarLemmas.{none_jump}
 use Rattle.survey_cells.proofs.jumps.add_jumps.Goals as goal
 
-pub returns-then-not-any_far : goal.returns-then-not-any_far
-returns-then-not-any_far c =
+pub returns-then-not-any_far-clause-jumps : goal.returns-then-not-any_far-clause-jumps
+returns-then-not-any_far-clause-jumps c =
     let before = c.args.traces.now.items in
     let usual = c.args.usual.now in
     let none : list_any (λ e. is_far e.0 usual) c.args.counts.now ≡ false

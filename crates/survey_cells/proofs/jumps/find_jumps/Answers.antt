@@ -7,8 +7,8 @@ use Rattle.survey_cells.specs.Along.{held_along}
 use Rattle.survey_cells.proofs.PairOrderLemmas.{sorted_pairs}
 use Rattle.survey_cells.proofs.jumps.find_jumps.Goals as goal
 
-pub returns : goal.returns
-returns c =
+pub returns-clause-jumps : goal.returns-clause-jumps
+returns-clause-jumps c =
     let a = held_along c.args.cells.now c.args.inlines in
     let b = held_along c.args.cells.now c.args.crosslines in
     let items = c.in_ok-others.ensures.jumps ∙ ap (λ (l : List TracePair). l ++ b.1) (c.in_ok-pairs.ensures.jumps ∙ ap (λ (l : List TracePair). l ++ a.1) c.new-traces.ensures.items) in

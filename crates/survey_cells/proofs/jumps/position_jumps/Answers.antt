@@ -7,10 +7,10 @@ use Rattle.cell_positions.specs.Steps.{inlines_apart, crosslines_apart, inline_s
 use Rattle.survey_cells.proofs.WholeLemmas.{jumps_are}
 use Rattle.survey_cells.proofs.jumps.position_jumps.Goals as goal
 
-pub returns : goal.returns
+pub returns-clause-jumps : goal.returns-clause-jumps
 unfolding inline_span_of crossline_span_of
-returns c = λ fs are inlines crosslines.
-    let one : c.in_ok-inlines.inlines ≡ option_and_then inlines_apart (inline_span_of fs) = c.in_ok-inlines.ensures ∙ ap (λ (ls : List Line). option_and_then inlines_apart (span_of ls)) inlines in
+returns-clause-jumps c = λ fs are inlines crosslines.
+    let one : c.in_ok-inlines.inlines ≡ option_and_then inlines_apart (inline_span_of fs) = c.in_ok-inlines.ensures.step ∙ ap (λ (ls : List Line). option_and_then inlines_apart (span_of ls)) inlines in
     let other : c.in_ok-crosslines.crosslines ≡ crossline_step c.args.shots fs
-    = c.in_ok-crosslines.ensures ∙ ap (λ (ls : List Line). let o : Option (ℤ × ℤ) = if c.args.shots then None else option_and_then crosslines_apart (span_of ls) in o) crosslines in
-    subst (λ (t : Option JumpsTold). IfOk c.find_jumps.result (λ jumps. option_map told jumps ≡ t)) (jumps_are fs c.args.cells.now are c.args.shots c.in_ok-inlines.inlines c.in_ok-crosslines.crosslines one other) c.find_jumps.ensures
+    = c.in_ok-crosslines.ensures.step ∙ ap (λ (ls : List Line). let o : Option (ℤ × ℤ) = if c.args.shots then None else option_and_then crosslines_apart (span_of ls) in o) crosslines in
+    subst (λ (t : Option JumpsTold). IfOk c.find_jumps.result (λ jumps. option_map told jumps ≡ t)) (jumps_are fs c.args.cells.now are c.args.shots c.in_ok-inlines.inlines c.in_ok-crosslines.crosslines one other) c.find_jumps.ensures.jumps

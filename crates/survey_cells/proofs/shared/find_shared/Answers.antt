@@ -11,13 +11,15 @@ use Rattle.survey_cells.proofs.PairOrderLemmas.{sorted_pairs}
 use Rattle.survey_cells.proofs.PlacedLemmas.{sorted_standing}
 use Rattle.survey_cells.proofs.shared.find_shared.Goals as goal
 
-pub returns : goal.returns
-returns c =
+pub returns-clause-pairs : goal.returns-clause-pairs
+returns-clause-pairs c =
     let kept = filter_from_retain _ is_standing (λ f x b g called. search rules) _ _ _ c.retain.ensures.filtered in
     let sorted = c.sort_unstable_by_key.ensures.sorted (λ (d : SurveyCell). (d.x, (d.y, d.trace))) (answers_always _ _ _ (λ f a r g called. search rules)) in
     let placed = sorted_standing _ _ c.sort_unstable_by_key.ensures.permutation sorted in
     sorted_pairs _ _ c.sort_unstable.ensures.permutation c.sort_unstable.ensures.sorted
     ∙ ap (in_order trace_pair_cmp)
-    (c.in_ok-pairs.ensures
+    (c.in_ok-pairs.ensures.pairs
     ∙ ap (λ (l : List SurveyCell). sharing (map standing_in l)) c.deref.ensures.value
-    ∙ ap sharing (placed ∙ ap (λ (l : List SurveyCell). in_order placed_cmp (map standing_in l)) kept))
+    ∙ ap sharing placed
+    ∙ c.in_ok-keep_crowded.ensures.sharing
+    ∙ ap (λ (l : List SurveyCell). sharing (in_order placed_cmp (map standing_in l))) kept)

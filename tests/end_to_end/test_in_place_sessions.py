@@ -33,6 +33,10 @@ SAVES = [
     ("a new trace that is gone again", "s.sgy", "set 1 inline 4 ; save ; copy 1 4 ; delete 4 ; set 1 inline 100 ; save"),
     ("samples", "s.sgy", "patch 2 0 7 8 ; save ; patch 2 0 3 ; patch 3 1 5 ; save ; patch 2 1 4 ; save"),
     ("runs that grow together, behind saves", "s.sgy", "set 1 @17:4 9 ; save ; set 1 @21:4 1 ; set 1 @20:1 5 ; save ; set 1 @1:8 -2 ; save"),
+    (
+        "a number and both headers at once, and the old ones again", "s.sgy",
+        "set 2 @189:4 7 ; text 1 A ; bin interval 9 ; save ; save ; set 2 @189:4 10 ; text 1 C ; bin interval 4000 ; set 3 @189:4 5 ; save",
+    ),
     ("no edit", "s.sgy", "save ; save"),
     *[
         (f"of each framing: {name}", name, "set 1 @1:4 9 ; set 1 @240:1 1 ; save ; set 1 @1:4 10 ; save ; set 1 @1:4 9 ; save")

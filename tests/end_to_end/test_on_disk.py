@@ -169,6 +169,8 @@ def test_a_file_of_another_size_than_was_told(room, compiled, traces, more):
     environment = {"LD_PRELOAD": str(compiled("told_size", "-shared")), "SIZE": str(len(made)), "TOLD": str(len(made) - more)}
     ended = room.ask("f.sgy", "count\n", "--on-disk", "--out", "o.sgy", environment=environment)
     assert (ended.status, ended.answers, room.has("o.sgy")) == (3, AT_LOAD, False)
+    session = room.run("f.sgy", "--on-disk", "--session", entered=b"count\n", environment=environment)
+    assert (session.status, session.answers) == (3, AT_LOAD)
     as_it_is = room.ask("f.sgy", "count\n", "--on-disk", environment=environment | {"SIZE": "0"})
     assert (as_it_is.status, as_it_is.answers) == (0, b"traces %d\n" % traces)
 

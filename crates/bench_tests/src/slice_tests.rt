@@ -2,9 +2,9 @@
 use crate::report_tests::on_survey;
 use crate::tests::{is_answered, meets, patches, signed};
 use bench_core::{Answer, AskFault, Bench, Edit, Field, Query, Refusal, Text};
-use bench_rules::Row;
 use field_map::Place;
 use num_order::Kind;
+use room::Room;
 use std::alloc::{AllocError, Global};
 use std::process::Abort;
 use std::test::Fail;
@@ -20,7 +20,7 @@ fn rows(asked: &Result<Answer, AskFault>) -> Option<usize> {
 // How many looks the answer to slice k takes, where it has so many rows.
 fn looks_for(bench: &mut Bench, alloc: Global, k: u32, expected: usize) -> Option<u64> {
     let before = bench.volume().looks();
-    let found = rows(&bench.ask(alloc, &Query::Slice(k)));
+    let found = rows(&bench.ask(&mut Room::new(alloc), &Query::Slice(k)));
     let looks = bench.volume().looks().checked_sub(before);
     if found == Some(expected) { looks } else { None }
 }
@@ -86,8 +86,8 @@ fn edits_around(rt: &impl Abort, alloc: Global, bench: &mut Bench) {
     assert!(rt; asks_three(bench, alloc));
     assert!(rt; patches(bench, alloc, (1, 0), &[9], None));
     assert!(rt; keeps_two(bench));
-    assert!(rt; meets(bench, alloc, Edit::Set(1, signed(0, 193, 4), 21), None));
-    assert!(rt; meets(bench, alloc, Edit::Set(1, signed(0, 5, 4), 9), None));
+    assert!(rt; meets(bench, alloc, Edit::Set(1, signed(193, 4), 21), None));
+    assert!(rt; meets(bench, alloc, Edit::Set(1, signed(5, 4), 9), None));
     let behind = Some(Refusal::NoSample(2, 2));
     assert!(rt; patches(bench, alloc, (1, 2), &[1], behind));
     assert!(rt; keeps_two(bench));
@@ -138,7 +138,7 @@ fn forgets_for_a_name(bench: &mut Bench, alloc: Global) -> bool {
 }
 
 fn edits_of_all(rt: &impl Abort, alloc: Global, bench: &mut Bench) {
-    assert!(rt; forgets(bench, alloc, Edit::Set(2, signed(0, 189, 4), 11)));
+    assert!(rt; forgets(bench, alloc, Edit::Set(2, signed(189, 4), 11)));
     assert!(rt; forgets_for_a_name(bench, alloc));
     assert!(rt; forgets(bench, alloc, Edit::Move(1, 3)));
     assert!(rt; forgets(bench, alloc, Edit::Copy(2, 1)));
@@ -153,39 +153,5 @@ fn edits_of_cells_and_traces_forget_all(rt: HostRuntime) -> Result<(), Fail> {
     on_survey(
         alloc,
         &mut |bench: &mut Bench| edits_of_all(&rt, alloc, bench),
-    )
-}
-
-// A row of inline 10.
-fn row(crossline: i32, position: u32, value: i128) -> Row {
-    Row {
-        inline: 10,
-        crossline,
-        position,
-        value,
-    }
-}
-
-// Whether the answer has the rows of slice 1.
-fn are_rows(asked: &Result<Answer, AskFault>) -> bool {
-    let rows = [row(21, 1, -2), row(22, 2, 4), row(23, 3, 6)];
-    match asked {
-        Ok(Answer::Slice(slice)) => slice.as_slice() == &rows[..],
-        _ => false,
-    }
-}
-
-fn answer_again(rt: &impl Abort, alloc: Global, bench: &mut Bench) {
-    assert!(rt; are_rows(&bench.ask(alloc, &Query::Slice(1))));
-    assert!(rt; are_rows(&bench.ask(alloc, &Query::Slice(1))));
-}
-
-// A kept slice gives the rows of the first answer.
-#[test]
-fn a_kept_slice_has_the_same_rows(rt: HostRuntime) -> Result<(), Fail> {
-    let alloc = rt.alloc();
-    on_survey(
-        alloc,
-        &mut |bench: &mut Bench| answer_again(&rt, alloc, bench),
     )
 }

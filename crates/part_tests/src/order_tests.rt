@@ -1,5 +1,6 @@
 // Values from outside: orders written down by hand. A test makes its orders and lends them out: the
 // check of a function that owns one takes the longer the more it does.
+use room::Room;
 use std::alloc::Global;
 use std::process::Abort;
 use std::test::Fail;
@@ -10,7 +11,7 @@ fn try_insert(alloc: Global, seq: &mut ChunkSeq, p: u32, id: usize) -> Result<bo
     if p == 0 || seq.len() == u32::MAX || p > seq.len() + 1 {
         return Ok(false);
     }
-    seq.reserve_one(alloc)?;
+    seq.reserve_one(&mut Room::new(alloc))?;
     seq.insert(p, id);
     Ok(true)
 }
@@ -20,7 +21,7 @@ fn try_move(alloc: Global, seq: &mut ChunkSeq, a: u32, b: u32) -> Result<bool, F
     if a == 0 || b == 0 || a > seq.len() || b > seq.len() {
         return Ok(false);
     }
-    seq.reserve_one(alloc)?;
+    seq.reserve_one(&mut Room::new(alloc))?;
     seq.move_to(a, b);
     Ok(true)
 }

@@ -1,5 +1,6 @@
 // A reader that gives a few bytes a call and then fails, behind a source that counts its failures.
 use device_io::{Failed, ReadFault, Source, StepReader};
+use room::Room;
 use std::io::Read;
 use std::process::Abort;
 use std::test::Fail;
@@ -32,7 +33,7 @@ fn reads_by_steps_and_counts_failures(rt: HostRuntime) {
 #[test]
 fn reads_up_to_a_limit(rt: HostRuntime) -> Result<(), Fail> {
     let mut source = Source::new(StepReader::new(b"segywb", 2, 9));
-    let bytes = source.read_up_to(rt.alloc(), 6)?;
+    let bytes = source.read_up_to(&mut Room::new(rt.alloc()), 6)?;
     assert_eq!(rt; bytes.as_slice(), b"segywb".as_slice());
     assert_eq!(rt; source.failures(), 0);
     Ok(())
@@ -43,12 +44,12 @@ fn refuses_what_is_above_a_limit(rt: HostRuntime) {
     let alloc = rt.alloc();
     let mut source = Source::new(StepReader::new(b"segywb", 2, 9));
     assert_eq!(rt;
-        source.read_up_to(alloc, 5).err(),
+        source.read_up_to(&mut Room::new(alloc), 5).err(),
         Some(ReadFault::TooLarge)
     );
     let mut source = Source::new(StepReader::new(b"segywb", 2, 3));
     assert_eq!(rt;
-        source.read_up_to(alloc, 6).err(),
+        source.read_up_to(&mut Room::new(alloc), 6).err(),
         Some(ReadFault::ReadFailed)
     );
     assert_eq!(rt; source.failures(), 1);
@@ -61,11 +62,11 @@ fn reads_what_comes(rt: HostRuntime) -> Result<(), Fail> {
     let alloc = rt.alloc();
     for expected in [2, 6, 9, u64::MAX] {
         let mut source = Source::expecting(StepReader::new(b"segywb", 4, 9), expected);
-        let bytes = source.read_up_to(alloc, u64::MAX)?;
+        let bytes = source.read_up_to(&mut Room::new(alloc), u64::MAX)?;
         assert_eq!(rt; bytes.as_slice(), b"segywb".as_slice());
     }
     let mut source = Source::expecting(StepReader::new(b"segywb", 4, 9), 6);
-    let bytes = source.read_up_to(alloc, 1 << 40)?;
+    let bytes = source.read_up_to(&mut Room::new(alloc), 1 << 40)?;
     assert_eq!(rt; bytes.capacity(), 6);
     Ok(())
 }

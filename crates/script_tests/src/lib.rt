@@ -1,16 +1,13 @@
-//! Tests of scripts through the public calls: what is read of a line, what a run prints and saves,
-//! and the tables that hints are taken from. They stand in a crate of their own, since a crate with
-//! tests is proved twice.
+//! Tests of scripts through the public calls, of what no run of the program shows: readers, writers
+//! and places that fail at a later call, and the tables that hints are taken from. What is read of
+//! a line, and what is printed and saved, is tried on the built program. They stand in a crate of
+//! their own, since a crate with tests is proved twice.
 #![tactic(auto)]
 
 #[cfg(test)]
-mod disk_tests;
-#[cfg(test)]
-mod header_tests;
-#[cfg(test)]
 mod hint_tests;
 #[cfg(test)]
-mod in_place_tests;
+mod reply_tests;
 #[cfg(test)]
 mod run_tests;
 #[cfg(test)]

@@ -1,49 +1,10 @@
-// What the reports and a long answer are printed as; each is worked by hand.
-use crate::tests::{options, prints, put, sample_file};
+// A long answer whose writer fails in the midst of it.
+use crate::tests::{options, put};
 use device_io::{Sink, Source, StepReader, StepWriter};
 use script_hints::Notes;
 use script_run::{RunEnd, run};
 use std::alloc::Global;
 use std::test::Fail;
-
-// Scalar -32768 over x -2147483648 and y 500.
-#[test]
-fn prints_single_reports(rt: HostRuntime) -> Result<(), Fail> {
-    let file = sample_file(rt.alloc())?;
-    let script = b"set 1 scalar -32768\nset 1 x -2147483648\nset 1 y 500\nset 1 crossline -21\n\
-          geometry 1\nstat 1\nfold 10 -21\nfold 10 -22\nrange x\nrange y\ntotals\n";
-    let printed = b"ok\nok\nok\nok\n\
-          geometry inline 10 crossline -21 offset 100 x -65536 y 125/8192\n\
-          stat least -2 greatest 1 sum -1 samples 2\nfold 1\nfold 0\nrange -65536 0\n\
-          range 0 125/8192\ntotals least -5 greatest 6 sum 7 samples 6\n";
-    assert!(rt; prints(rt.alloc(), file.as_slice(), script, 0, printed)?);
-    Ok(())
-}
-
-// The trace on crossline -21 stands alone, the other two stand together.
-#[test]
-fn prints_lists_of_reports(rt: HostRuntime) -> Result<(), Fail> {
-    let file = sample_file(rt.alloc())?;
-    let script = b"set 1 crossline -21\ngrid\ninlines\ncrosslines\nhistogram\nslice 1\nslice 2\n";
-    let printed = b"ok\ncells 2\ncell 10 -21 1\ncell 10 21 2\ninlines 1\ninline 10 3\n\
-          crosslines 2\ncrossline -21 1\ncrossline 21 2\nhistogram 2\ntimes 1 1\ntimes 2 1\n\
-          slice 3\nrow 10 -21 1 -2\nrow 10 21 2 4\nrow 10 21 3 6\nslice 0\n";
-    assert!(rt; prints(rt.alloc(), file.as_slice(), script, 0, printed)?);
-    Ok(())
-}
-
-// The traces have the samples 1 and -2, 3 and 4, and -5 and 6.
-#[test]
-fn prints_samples_of_many_traces(rt: HostRuntime) -> Result<(), Fail> {
-    let file = sample_file(rt.alloc())?;
-    let script = b"samples 1 2 0 1\nset 1 crossline -21\nsamples all 1 9 3 where crossline >= 21\n\
-          samples 2 last 1 0\n\
-          samples all 0 1 0\nsamples 0 3 0 1\npatch 3 0 7\nsamples 3 3 0 4294967295 4294967295\n";
-    let printed = b"samples 2\n1 1 -2\n2 3 4\nok\nsamples 2\n2 4\n3 6\nsamples 2\n2\n3\n\
-          refused S03 number\nrefused E01 no trace 0 of 3\nok\nsamples 1\n3 7\n";
-    assert!(rt; prints(rt.alloc(), file.as_slice(), script, 2, printed)?);
-    Ok(())
-}
 
 // A thousand traces of one sample, each -5 on inline 10 and crossline -21.
 fn thousand_traces(alloc: Global) -> Result<Vec<u8>, Fail> {
@@ -74,7 +35,7 @@ fn cut_slice(alloc: Global, limit: usize) -> Result<(Vec<u8>, RunEnd), Fail> {
         &mut lines,
         &mut answers,
         &mut out,
-        options(false, false)?,
+        options(false)?,
         &mut Notes::new(),
     );
     let _writer = answers.into_inner();

@@ -1,4 +1,5 @@
 // One operation, many times, on an order of so many ids.
+use room::Room;
 use std::alloc::Global;
 use trace_seq::{ChunkSeq, OutOfMemory};
 
@@ -20,7 +21,7 @@ fn put(alloc: Global, seq: &mut ChunkSeq, p: u32, id: usize) -> Result<(), OutOf
     if p == 0 || seq.len() == u32::MAX || p > seq.len() + 1 {
         return Ok(());
     }
-    seq.reserve_one(alloc)?;
+    seq.reserve_one(&mut Room::new(alloc))?;
     seq.insert(p, id);
     Ok(())
 }
@@ -29,7 +30,7 @@ fn shift(alloc: Global, seq: &mut ChunkSeq, a: u32, b: u32) -> Result<(), OutOfM
     if a == 0 || b == 0 || a > seq.len() || b > seq.len() {
         return Ok(());
     }
-    seq.reserve_one(alloc)?;
+    seq.reserve_one(&mut Room::new(alloc))?;
     seq.move_to(a, b);
     Ok(())
 }

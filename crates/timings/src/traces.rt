@@ -4,6 +4,7 @@ ghost use Rattle.std.specs.Prelude.{◌≡◌};
 use device_io::Source;
 use field_map::FieldMap;
 use frame_cut::{Limits, Reading};
+use room::Room;
 use std::alloc::Global;
 use std::fs;
 use std::rt::Files;
@@ -47,7 +48,7 @@ fn next_record(alloc: Global, loading: &mut Loading<()>, fields: &FieldMap) -> O
     ensures { loading.new.volume ≡ loading.old.volume }
 {
     let record = record_of(&loading.next_trace()?, fields);
-    loading.push(alloc, ()).ok()?;
+    loading.push(&mut Room::new(alloc), ()).ok()?;
     Some(record)
 }
 
@@ -70,12 +71,13 @@ pub(crate) fn count_records<R: Files + AllocGlobal>(
         tail: false,
     };
     let mut loading: Loading<()> = Loading::load(
-        rt.alloc(),
+        &mut Room::new(rt.alloc()),
         &mut Source::new(file),
         reading,
         limits,
-    ).ok()?;
-    let fields = FieldMap::standard(rt.alloc(), loading.head().extensions).ok()?;
+    )
+    .ok()?;
+    let fields = FieldMap::standard(&mut Room::new(rt.alloc()), loading.head().extensions).ok()?;
     let mut total = Total {
         samples: 0,
         least: 0,

@@ -1,16 +1,17 @@
-// Loads, edits and saves over a small file. One function owns the overlay of each test and lends it
-// out: the check of a function that owns an overlay takes the longer the more it does, and that of
-// a borrower stays short. What it is lent to is a `dyn`: a type parameter would have it checked
-// anew for each test.
+// Loads, edits and saves over a small file: its payloads, its looks, and edits that are prepared.
+// One function owns the overlay of each test and lends it out: the check of a function that owns an
+// overlay takes the longer the more it does, and that of a borrower stays short. What it is lent to
+// is a `dyn`: a type parameter would have it checked anew for each test.
 ghost use Rattle.std.specs.Prelude.{◌≡◌, ◌+◌, [], length, IfOk, OnOk};
 ghost use Rattle.frame_cut.specs.Traces.{count_of};
 
 use crate::files::two_traces;
 use crate::puts::{is_trace, may_put, put};
-use crate::tables::volume_of;
+use crate::volumes::volume_of;
 use device_io::{Sink, Source, StepReader};
 use edit_overlay::{Overlay, SaveFault};
 use frame_cut::{Limits, Reading};
+use room::Room;
 use std::alloc::{AllocError, Global};
 use std::process::Abort;
 use std::test::Fail;
@@ -154,18 +155,6 @@ fn expect_payloads(rt: &impl Abort, volume: &Overlay<u32>, expected: &[u32]) {
     assert_eq!(rt; payloads.next(), None);
 }
 
-// Lays two of the bytes over each of the first two traces.
-fn put_over_two(
-    alloc: Global,
-    volume: &mut Overlay<u32>,
-    at: u64,
-    bytes: &[u8; 4],
-) -> Result<(), Fail> {
-    prepare_over_two(alloc, volume, at, bytes)?;
-    volume.commit();
-    Ok(())
-}
-
 fn prepare(
     alloc: Global,
     volume: &mut Overlay<u32>,
@@ -176,7 +165,7 @@ fn prepare(
     if !may_put(volume, p, at, bytes) {
         return Err(Fail::from("no place for the bytes"));
     }
-    volume.prepare_put(alloc, p, at, bytes)?;
+    volume.prepare_put(&mut Room::new(alloc), p, at, bytes)?;
     Ok(())
 }
 
@@ -193,7 +182,7 @@ fn prepare_over_two(
     if !may_put(volume, 2, at, &bytes[2..]) {
         return Err(Fail::from("no place for the bytes"));
     }
-    volume.prepare_put_each(alloc, 1, at, 2, bytes)?;
+    volume.prepare_put_each(&mut Room::new(alloc), 1, at, 2, bytes)?;
     Ok(())
 }
 
@@ -215,7 +204,7 @@ fn prepare_move(alloc: Global, volume: &mut Overlay<u32>, a: u32, b: u32) -> Res
     if a == 0 || a > count || b == 0 || b > count {
         return Err(Fail::from("no such trace"));
     }
-    volume.prepare_move(alloc, a, b)?;
+    volume.prepare_move(&mut Room::new(alloc), a, b)?;
     Ok(())
 }
 
@@ -236,48 +225,13 @@ fn insert(
     if !is_trace(&volume.head(), bytes) {
         return Err(Fail::from("no trace"));
     }
-    volume.insert(alloc, p, Vec::from_slice(alloc, bytes)?, payload)?;
+    volume.insert(
+        &mut Room::new(alloc),
+        p,
+        Vec::from_slice(alloc, bytes)?,
+        payload,
+    )?;
     Ok(())
-}
-
-// Puts a trace in place of trace p, with this payload.
-fn replace(
-    alloc: Global,
-    volume: &mut Overlay<u32>,
-    p: u32,
-    bytes: &[u8],
-    payload: u32,
-) -> Result<(), Fail> {
-    if volume.length() > 10_000_000 || bytes.len() > 10_000 {
-        return Err(Fail::from("too much"));
-    }
-    if p == 0 || p > volume.count() {
-        return Err(Fail::from("no such trace"));
-    }
-    if !is_trace(&volume.head(), bytes) {
-        return Err(Fail::from("no trace"));
-    }
-    let own = Box::new(alloc, Vec::from_slice(alloc, bytes)?)?;
-    volume.replace(p, own, payload);
-    Ok(())
-}
-
-#[test]
-fn cuts_bytes_in_memory(rt: HostRuntime) -> Result<(), Fail> {
-    let alloc = rt.alloc();
-    on_small(
-        alloc,
-        &mut |file: &[u8], volume: &mut Overlay<u32>| {
-            assert_eq!(rt; volume.count(), 2);
-            assert_eq!(rt; volume.length(), 4088);
-            assert_eq!(rt; volume.head().samples, 2);
-            assert!(rt; volume.block(1).is_none());
-            assert!(rt; volume.trailer(1).is_none());
-            expect_trace(&rt, volume, 1, part(file, 3600, 3844));
-            expect_trace(&rt, volume, 2, part(file, 3844, 4088));
-            expect_saved(&rt, alloc, volume, &[file])
-        },
-    )
 }
 
 #[test]
@@ -351,7 +305,7 @@ fn shows_next(
         return Err(Fail::from("no trace more"));
     };
     let shown = has_bytes(&view, expected);
-    loading.push(alloc, payload)?;
+    loading.push(&mut Room::new(alloc), payload)?;
     Ok(shown)
 }
 
@@ -382,7 +336,12 @@ fn loading_in_steps(rt: &impl Abort, alloc: Global, file: &[u8]) -> Result<Loadi
 {
     let limits = limits()?;
     let mut reader = Source::new(StepReader::new(file, 1, u64::MAX));
-    let loading = Loading::load(alloc, &mut reader, Reading::as_written(), limits);
+    let loading = Loading::load(
+        &mut Room::new(alloc),
+        &mut reader,
+        Reading::as_written(),
+        limits,
+    );
     assert_eq!(rt; reader.failures(), 0);
     Ok(loading?)
 }
@@ -411,43 +370,6 @@ fn loads_in_steps(rt: HostRuntime) -> Result<(), Fail> {
     let alloc = rt.alloc();
     let file = two_traces(alloc)?;
     load_in_steps(&rt, alloc, file.as_slice())
-}
-
-#[test]
-fn puts_text_and_head(rt: HostRuntime) -> Result<(), Fail> {
-    let alloc = rt.alloc();
-    on_small(
-        alloc,
-        &mut |file: &[u8], volume: &mut Overlay<u32>| {
-            volume.put_text(40, &[0xC3; 80]);
-            volume.put_head(398, &[6, 7]);
-            let text = part(file, 0, 3120);
-            let head = part(file, 3200, 3598);
-            let traces = part(file, 3600, 4088);
-            expect_saved(
-                &rt,
-                alloc,
-                volume,
-                &[text, &[0xC3; 80], head, &[6, 7], traces],
-            )
-        },
-    )
-}
-
-#[test]
-fn puts_over_two_traces(rt: HostRuntime) -> Result<(), Fail> {
-    let alloc = rt.alloc();
-    on_small(
-        alloc,
-        &mut |file: &[u8], volume: &mut Overlay<u32>| {
-            put(alloc, volume, 2, 241, &[3])?;
-            put_over_two(alloc, volume, 240, &[1, 2, 5, 6])?;
-            let front = part(file, 0, 3840);
-            let middle = part(file, 3842, 4084);
-            let back = part(file, 4086, 4088);
-            expect_saved(&rt, alloc, volume, &[front, &[1, 2], middle, &[5, 6], back])
-        },
-    )
 }
 
 fn prepare_and_discard(
@@ -573,28 +495,6 @@ fn prepares_and_commits_a_move(rt: HostRuntime) -> Result<(), Fail> {
             insert(alloc, volume, 3, last.as_slice(), 3)?;
             move_and_discard(&rt, alloc, file, last.as_slice(), volume)?;
             move_and_commit(&rt, alloc, file, last.as_slice(), volume)
-        },
-    )
-}
-
-// By a longer one; what was put over it before is gone.
-#[test]
-fn replaces_a_trace(rt: HostRuntime) -> Result<(), Fail> {
-    let alloc = rt.alloc();
-    let longer = trace(alloc, 5, 0x33)?;
-    on_small(
-        alloc,
-        &mut |file: &[u8], volume: &mut Overlay<u32>| {
-            let longer = longer.as_slice();
-            put(alloc, volume, 1, 0, &[8])?;
-            replace(alloc, volume, 1, longer, 33)?;
-            expect_trace(&rt, volume, 1, longer);
-            expect_payloads(&rt, volume, &[33, 2]);
-            put(alloc, volume, 1, 249, &[9])?;
-            let headers = part(file, 0, 3600);
-            let changed = part(longer, 0, 249);
-            let second = part(file, 3844, 4088);
-            expect_saved(&rt, alloc, volume, &[headers, changed, &[9], second])
         },
     )
 }

@@ -38,6 +38,15 @@ pub(crate) fn head_of(order: Order, format: Format, samples: u32) -> Head
     }
 }
 
+// Up to three header extensions a trace, and each its own number of samples.
+pub(crate) fn counted_head() -> Head {
+    let mut head = plain_head();
+    head.major = 2;
+    head.fixed = false;
+    head.extensions = 3;
+    head
+}
+
 pub(crate) fn run(alloc: Global, at: u64, bytes: &[u8]) -> Result<Run, AllocError>
     ensures { IfOk result (λ r. (r.at ≡ at) × (r.bytes.items ≡ bytes.now)) }
 {

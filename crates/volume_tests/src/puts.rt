@@ -7,6 +7,7 @@ ghost use Rattle.edit_overlay.specs.CountedVolume.{IsSeen};
 
 use edit_overlay::Overlay;
 use frame_cut::{Head, front_length, trace_length};
+use room::Room;
 use std::alloc::Global;
 use std::test::Fail;
 
@@ -50,7 +51,7 @@ pub(crate) fn put<T: Copy>(
     if !may_put(volume, p, at, bytes) {
         return Err(Fail::from("no place for the bytes"));
     }
-    volume.prepare_put(alloc, p, at, bytes)?;
+    volume.prepare_put(&mut Room::new(alloc), p, at, bytes)?;
     volume.commit();
     Ok(())
 }

@@ -4,25 +4,15 @@ ghost use Rattle.std.specs.Prelude.{◌≡◌, ◌+◌, ◌<◌, ◌≤◌, leng
 ghost use Rattle.trace_view.specs.Runs.{Fit};
 ghost use Rattle.trace_view.specs.Shown.{bytes_of};
 
-use crate::heads::{integers, plain_head, run};
+use crate::heads::{counted_head, plain_head, run};
 use crate::views::view;
 use field_map::Place;
-use frame_cut::Head;
-use num_order::{Kind, Order};
-use sample_codes::{Format, IntegerFormat, OpaqueFormat};
+use num_order::Kind;
+use room::Room;
 use std::alloc::{AllocError, Global};
 use std::process::Abort;
 use std::test::Fail;
 use trace_view::{OutOfMemory, Pieces, Run, TraceView, put_run};
-
-// Up to three header extensions a trace, and each its own number of samples.
-fn counted_head() -> Head {
-    let mut head = plain_head();
-    head.major = 2;
-    head.fixed = false;
-    head.extensions = 3;
-    head
-}
 
 fn place(extension: u16, byte: u16, size: u8, signed: bool) -> Place {
     Place {
@@ -41,72 +31,9 @@ fn count(pieces: Pieces<'_>) -> u32 {
     count
 }
 
-fn expect_little_endian(rt: &impl Abort, view: &TraceView<'_>) {
-    assert_eq!(rt; view.length(), 246);
-    assert_eq!(rt; view.extension_count(), 0);
-    assert_eq!(rt; view.sample_count(), 2);
-    assert_eq!(rt; view.sample(0), Some(-1));
-    assert_eq!(rt; view.sample(1), Some(-8_388_608));
-    assert_eq!(rt; view.sample(2), None);
-}
-
-fn expect_little_endian_samples(rt: &impl Abort, view: &TraceView<'_>) {
-    let mut samples = view.samples();
-    assert_eq!(rt; samples.next(), Some(-1));
-    assert_eq!(rt; samples.next(), Some(-8_388_608));
-    assert_eq!(rt; samples.next(), None);
-}
-
-fn expect_values_in_main_header(rt: &impl Abort, view: &TraceView<'_>) {
-    assert_eq!(rt; view.length(), 246);
-    assert_eq!(rt; view.value(place(0, 240, 1, true)), Some(0));
-    assert_eq!(rt; view.value(place(0, 240, 2, true)), None);
-    assert_eq!(rt; view.value(place(0, 1, 5, true)), None);
-    assert_eq!(rt; view.value(place(1, 1, 4, true)), None);
-    assert_eq!(rt;
-        view.plain(240, 246),
-        Some(&[0xFF, 0xFF, 0xFF, 0, 0, 0x80][..])
-    );
-}
-
-// 240 zero bytes and two little-endian samples of 24 bits.
-#[test]
-fn reads_little_endian_samples(rt: HostRuntime) {
-    let mut head = plain_head();
-    head.order = Order::Little;
-    head.format = integers(IntegerFormat::Signed24);
-    let mut base = [0; 246];
-    base[240] = 0xFF;
-    base[241] = 0xFF;
-    base[242] = 0xFF;
-    base[245] = 0x80;
-    let view = view(&rt, &head, &base, &[]);
-    expect_little_endian(&rt, &view);
-    expect_little_endian_samples(&rt, &view);
-    expect_values_in_main_header(&rt, &view);
-}
-
-// Two samples that are bytes without a value.
-#[test]
-fn reads_no_values_of_opaque_samples(rt: HostRuntime) {
-    let mut head = plain_head();
-    head.format = Format::Opaque(OpaqueFormat::IbmFloat32);
-    let base = [0x41; 248];
-    let view = view(&rt, &head, &base, &[]);
-    assert_eq!(rt; view.sample(0), None);
-    assert_eq!(rt; view.samples().next(), None);
-    assert!(rt; view.plain_samples().is_some_and(|bytes| bytes.len() == 8));
-    assert_eq!(rt; view.value(place(0, 1, 4, true)), Some(0x4141_4141));
-}
-
 fn expect_runs(rt: &impl Abort, view: &TraceView<'_>) {
     assert_eq!(rt; view.value(place(0, 189, 4, true)), Some(327_680));
     assert_eq!(rt; view.value(place(0, 189, 2, true)), Some(5));
-    assert_eq!(rt; view.sample(0), Some(1));
-    assert_eq!(rt; view.sample(1), Some(32_766));
-}
-
-fn expect_samples_of_runs(rt: &impl Abort, view: &TraceView<'_>) {
     let mut samples = view.samples();
     assert_eq!(rt; samples.next(), Some(1));
     assert_eq!(rt; samples.next(), Some(32_766));
@@ -142,7 +69,6 @@ fn expect_across_runs(rt: &impl Abort, runs: &[Run])
     base[243] = 0xFE;
     let view = view(rt, &head, &base, runs);
     expect_runs(rt, &view);
-    expect_samples_of_runs(rt, &view);
     expect_pieces(rt, &view);
 }
 
@@ -152,15 +78,6 @@ fn reads_across_runs(rt: HostRuntime) -> Result<(), Fail> {
     let runs = three_runs(rt.alloc())?;
     expect_across_runs(&rt, &runs);
     Ok(())
-}
-
-fn expect_extensions(rt: &impl Abort, view: &TraceView<'_>) {
-    assert_eq!(rt; view.extension_count(), 2);
-    assert_eq!(rt; view.sample_count(), 2);
-    assert_eq!(rt; view.value(place(1, 157, 2, false)), Some(2));
-    assert_eq!(rt; view.value(place(2, 1, 2, true)), Some(-2));
-    assert_eq!(rt; view.value(place(2, 1, 2, false)), Some(65_534));
-    assert_eq!(rt; view.value(place(3, 1, 2, true)), None);
 }
 
 fn expect_the_second_extension(rt: &impl Abort, view: &TraceView<'_>) {
@@ -201,7 +118,6 @@ fn expect_two_extensions(rt: &impl Abort, runs: &[Run])
     base[721] = 1;
     base[723] = 2;
     let view = view(rt, &head, &base, runs);
-    expect_extensions(rt, &view);
     expect_the_second_extension(rt, &view);
     expect_bytes_behind(rt, &view);
     expect_lengths_under_puts(rt, &view);
@@ -229,7 +145,7 @@ fn put_over(alloc: Global, runs: &[Run], at: u64, bytes: &[u8]) -> Result<Vec<Ru
     requires inside { at + length bytes.now ≤ 244 }
     ensures { IfOk result (λ list. Fit list.items 244) }
 {
-    put_run(alloc, 244, runs, at, bytes)
+    put_run(&mut Room::new(alloc), 244, runs, at, bytes)
 }
 
 // Two puts beside one another.

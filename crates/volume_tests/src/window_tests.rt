@@ -1,5 +1,6 @@
 // Places of cells that have an offset each, and of rows that are added, worked by hand.
-use std::alloc::{AllocError, Global};
+use room::Room;
+use std::alloc::Global;
 use std::test::Fail;
 use window_counts::{
     CellCounts, Extent, OffsetExtent, OffsetRectangle, Rectangle, RectangleExtent, Window,
@@ -10,12 +11,12 @@ fn places_of(
     alloc: Global,
     traces: usize,
     triples: &[(i32, i32, i32)],
-) -> Result<OffsetRectangle, AllocError> {
+) -> Result<OffsetRectangle, Fail> {
     let mut extent = OffsetExtent::none();
     for triple in triples {
         extent.include(*triple);
     }
-    let window = OffsetRectangle::by_cell(alloc, &extent, traces)?;
+    let window = OffsetRectangle::by_cell(&mut Room::new(alloc), &extent, traces)?;
     Ok(met(window, triples))
 }
 
@@ -94,13 +95,13 @@ fn counts_of(alloc: Global, last: i32) -> Result<CellCounts, Fail> {
     let mut extent = RectangleExtent::none();
     extent.include((10, 20));
     extent.include((11, last));
-    Ok(CellCounts::within(alloc, Rectangle::over(&extent, 200))?)
+    Ok(CellCounts::within(&mut Room::new(alloc), Rectangle::over(&extent, 200))?)
 }
 
 // How many places there are once the cell was counted.
-fn places_with(cells: &mut CellCounts, cell: (i32, i32)) -> Result<usize, Fail> {
+fn places_with(alloc: Global, cells: &mut CellCounts, cell: (i32, i32)) -> Result<usize, Fail> {
     if cells.count(cell) < 10 {
-        cells.raise(cell)?;
+        cells.raise(&mut Room::new(alloc), cell)?;
     }
     Ok(cells.places())
 }
@@ -112,11 +113,11 @@ fn counts_cells_above_in_rows(rt: HostRuntime) -> Result<(), Fail> {
     let mut cells = counts_of(rt.alloc(), 21)?;
     let cells = &mut cells;
     assert_eq!(rt; cells.places(), 4);
-    assert_eq!(rt; places_with(cells, (15, 20))?, 6);
-    assert_eq!(rt; places_with(cells, (15, 21))?, 6);
-    assert_eq!(rt; places_with(cells, (18, 21))?, 8);
-    assert_eq!(rt; places_with(cells, (19, 20))?, 8);
-    assert_eq!(rt; places_with(cells, (16, 20))?, 8);
+    assert_eq!(rt; places_with(rt.alloc(), cells, (15, 20))?, 6);
+    assert_eq!(rt; places_with(rt.alloc(), cells, (15, 21))?, 6);
+    assert_eq!(rt; places_with(rt.alloc(), cells, (18, 21))?, 8);
+    assert_eq!(rt; places_with(rt.alloc(), cells, (19, 20))?, 8);
+    assert_eq!(rt; places_with(rt.alloc(), cells, (16, 20))?, 8);
     assert_eq!(rt; (cells.count((15, 21)), cells.count((19, 20))), (1, 1));
     assert_eq!(rt; cells.span(), Some(((15, 20), (19, 20))));
     Ok(())
@@ -128,8 +129,8 @@ fn adds_no_row_behind_one_that_is_not_in_use(rt: HostRuntime) -> Result<(), Fail
     let mut cells = counts_of(rt.alloc(), 219)?;
     let cells = &mut cells;
     assert_eq!(rt; cells.places(), 400);
-    assert_eq!(rt; places_with(cells, (15, 20))?, 600);
-    assert_eq!(rt; places_with(cells, (16, 20))?, 600);
+    assert_eq!(rt; places_with(rt.alloc(), cells, (15, 20))?, 600);
+    assert_eq!(rt; places_with(rt.alloc(), cells, (16, 20))?, 600);
     assert_eq!(rt; (cells.count((15, 20)), cells.count((16, 20))), (1, 1));
     Ok(())
 }

@@ -53,6 +53,7 @@ test:
 	python3 tests/edits_fit.py
 	python3 tests/crates_named.py
 	bash tests/by_hand.sh
+	bash tests/rooms.sh
 	cd dist && sha256sum -c SHA256SUMS
 	rm -f $(BUILT)
 	bash tests/gate.sh $(BUILT) $(SHIPPED)

@@ -1,10 +1,11 @@
 -- The slices that are kept after an edit are those of the volume after it.
 use Rattle.std.proofs.Common.{◌≡◌, ℕ, ℤ, ◌-◌, ◌<◌, ◌≤◌, Bool, true, false, cond, eqb, List, [], ◌∷◌, length, Option, Some, None, refl, sym, ap, subst, ◌∙◌, arith, get_or-set_same, length-set}
-use Rattle.std.specs.Prelude.{Result, Ok, Err, IfOk, OnErr, option_map, not}
+use Rattle.std.specs.Prelude.{Result, Ok, Err, IfOk, IsErrOf, OnErr, option_map, not}
 use Rattle.std.specs.Result.{IsErrAnd}
 use Rattle.std.specs.List.{list_any}
 use Rattle.std.proofs.lemmas.Bool.{eq-eqb, le-leb}
 use Rattle.std.proofs.lemmas.List.Elements.{All-cons, All-head, All-nil, All-tail, All-filter}
+use Rattle.room.specs.Refusals.{Rises}
 use Rattle.field_map.specs.Binding.{HasGeometry, is_geometry}
 use Rattle.field_map.specs.declared.place.Place.{Place}
 use Rattle.frame_cut.specs.Cuts.{IsCut}
@@ -15,6 +16,7 @@ use Rattle.time_slice.proofs.CacheLemmas.{numbers_after_forgotten}
 use Rattle.bench_rules.specs.declared.edit.Edit.{Edit}
 use Rattle.bench_rules.specs.declared.edit.Edit.TheVariants.{Set, SetBin, Declare, DropTail, SetText, Map, MapAs, Unmap, Patch, Blank, Copy, Delete, Move, MoveBlock, Resize, Renumber, Compute, Sort, OfChosen}
 use Rattle.bench_rules.specs.declared.refusal.Refusal.{Refusal}
+use Rattle.bench_rules.specs.declared.refusal.Refusal.TheVariants.{OutOfMemory}
 use Rattle.bench_rules.specs.declared.query.Query.{Query}
 use Rattle.bench_rules.specs.declared.query.Query.TheVariants.{Count, Info, Get, GetBin, Line, Code, Stanzas, Fields, Sample, Geometry, Stat, Fold, Grid, Inlines, Crosslines, Histogram, Range, Totals, Slice, Faults, Problems, Survey, Lines, Table, Find, Header, Extremes, OfChosen as AskOfChosen}
 use Rattle.bench_rules.specs.Kept.{kept_after_edit, kept_after_query, same_cell, cell_of}
@@ -228,3 +230,14 @@ no_slice (AskOfChosen c query) other = (λ s kept. refl, λ kept. refl)
 pub same_kept : {A E : Type 0} (r : Result A E) {after before : List ℕ} → after ≡ before → kept_after_reply r after before ≡ before
 same_kept (Ok a) same = same
 same_kept (Err e) same = refl
+
+module _ {T U : Type 0} where
+  -- what was refused for want of memory is so too where the refusal is handed on
+  pub rises_too : (refusal : Refusal) (r : Result T Refusal) (old new : ℕ) → IsErrAnd r (λ e. e ≡ refusal) → Rises (IsErrOf {T = U} (Err refusal) OutOfMemory) old new → Rises (IsErrOf r OutOfMemory) old new
+  rises_too refusal (Ok x) old new is rises = absurd is
+  rises_too refusal (Err e) old new is rises = record {
+    never_falls = rises.never_falls;
+    rose = λ want.
+        let same : e ≡ OutOfMemory = cc in
+        rises.rose (ap (λ (f : Refusal). let q : Result U Refusal = Err f in q) (sym is ∙ same));
+  }

@@ -1,5 +1,6 @@
-ghost use Rattle.std.specs.Prelude.{◌≡◌, ◌≤◌, ◌↔◌, true, false, length, IsSome, IfSome, IsTrue, IfOk, IfErr, OnErr, MatchResult};
+ghost use Rattle.std.specs.Prelude.{◌≡◌, ◌≤◌, ◌↔◌, true, false, length, IsSome, IfSome, IsTrue, IfOk, IfErr, OnErr, MatchResult, IsErrAnd, IsErrOf};
 ghost use Rattle.std.specs.Borrow.{sem};
+ghost use Rattle.room.specs.Refusals.{Rises};
 ghost use Rattle.frame_cut.specs.Traces.{is_trace};
 ghost use Rattle.std.specs.Io.KnownBytes.{Consumes, IsAtEnd};
 ghost use Rattle.field_map.specs.Binding.{geometry_at_load, HasGeometry};
@@ -26,7 +27,7 @@ use edit_overlay::{PassFault, ReadFault, SaveFault};
 use float_codes::FloatFormat;
 use frame_cut::{Limits, LoadFault, Reading};
 use live_volume::LiveVolume;
-use std::alloc::Global;
+use room::Room;
 use std::fs::File;
 use std::io::{Read, Write};
 use std::marker::Model;
@@ -63,7 +64,7 @@ impl Bench {
     /// reason that the file gives, L16 where a growth was refused. A refused load has taken at most
     /// one byte above the limit.
     pub fn load<R: Read>(
-        alloc: Global,
+        room: &mut Room,
         reader: &mut Source<R>,
         reading: Reading,
         limits: Limits,
@@ -78,7 +79,7 @@ impl Bench {
         ensures fields { IfOk result (λ b. b.state.fields ≡ geometry_at_load) }
         ensures reading { IfOk result (λ b. b.state.reading ≡ reading) }
         ensures limits { IfOk result (λ b. b.state.limits ≡ limits) }
-        ensures memory { IfOk result (λ b. b.state.on_disk ≡ false) }
+        ensures in_memory { IfOk result (λ b. b.state.on_disk ≡ false) }
         ensures loaded { IfOk result (λ b. b.loaded ≡ bytes_of b.state.volume) }
         ensures agreed { IfOk result (λ b. IsTrue b.agreed) }
         ensures refused { IfErr result (λ fault. IsLoadFault (R.remaining reader.old.inner) reading
@@ -87,11 +88,12 @@ impl Bench {
             (R.remaining reader.new.inner) limits) }
         ensures failures { MatchResult result (λ _. reader.new.failures ≡ reader.old.failures)
             (λ fault. FailuresAfterRefusal fault reader.old.failures reader.new.failures) }
+        ensures memory { Rises (IsErrOf result LoadFault.OutOfMemory) room.old room.new }
     {
-        let Ok(slices) = no_slices(alloc) else {
+        let Ok(slices) = no_slices(room) else {
             return Err(LoadFault::OutOfMemory);
         };
-        let volume = LiveVolume::load(alloc, reader, reading, limits)?;
+        let volume = LiveVolume::load(room, reader, reading, limits)?;
         Ok(Bench { volume, slices })
     }
 
@@ -101,7 +103,7 @@ impl Bench {
     /// not so many bytes, L02 to L15 or L17 for the first reason that every file with the bytes
     /// that were read and so many gives, L16 where a growth was refused.
     pub fn load_on_disk(
-        alloc: Global,
+        room: &mut Room,
         file: File,
         size: u64,
         reading: Reading,
@@ -120,11 +122,13 @@ impl Bench {
         ensures agreed { IfOk result (λ b. IsTrue b.agreed) }
         ensures refused { IfErr result
             (λ refused. IsPassFault size reading limits refused.read refused.fault) }
+        ensures memory { Rises (IsErrAnd result (λ e. e.fault ≡
+            LoadFault.OutOfMemory)) room.old room.new }
     {
-        let Ok(slices) = no_slices(alloc) else {
+        let Ok(slices) = no_slices(room) else {
             return Err(PassFault::unread(LoadFault::OutOfMemory));
         };
-        let volume = LiveVolume::load_on_disk(alloc, file, size, reading, limits)?;
+        let volume = LiveVolume::load_on_disk(room, file, size, reading, limits)?;
         Ok(Bench { volume, slices })
     }
 
@@ -155,7 +159,7 @@ impl Bench {
     /// E11, only where nothing else refuses them; `OfChosen`, whose traces have to be listed first,
     /// in the place of any refusal but E01. On disk an edit that looks is also refused where a
     /// trace could not be read (E14, E15). Slices that the edit may have changed are forgotten.
-    pub fn apply(&mut self, alloc: Global, edit: &Edit) -> Result<Option<u32>, Refusal>
+    pub fn apply(&mut self, room: &mut Room, edit: &Edit) -> Result<Option<u32>, Refusal>
         ensures step { IsTrue self.new.agreed → Step self.old.state edit.now result self.new.state }
         ensures err { OnErr result (self.new.state ≡ self.old.state) }
         ensures same { IsReadAs self.old.state self.new.state }
@@ -168,9 +172,10 @@ impl Bench {
         ensures kept_err { OnErr result (self.new.kept ≡ self.old.kept) }
         ensures told { IfOk result (λ told. IsTrue self.new.agreed →
             told ≡ told_of self.old.state edit.now) }
+        ensures memory { Rises (IsErrOf result Refusal.OutOfMemory) room.old room.new }
     {
         self.volume.stands();
-        let (moved, told) = change(&mut self.volume, alloc, edit)?;
+        let (moved, told) = change(&mut self.volume, room, edit)?;
         follow(&mut self.slices, edit, moved);
         Ok(told)
     }
@@ -179,7 +184,7 @@ impl Bench {
     /// text or a list, and is refused for want of it, E11, only where nothing else refuses it. On
     /// disk a query that looks is also refused where a trace could not be read (E14, E15). A slice
     /// that is answered is kept, and answered again without a look at any trace.
-    pub fn ask(&mut self, alloc: Global, query: &Query) -> Result<Answer, AskFault>
+    pub fn ask(&mut self, room: &mut Room, query: &Query) -> Result<Answer, AskFault>
         ensures reply { IsTrue self.new.agreed → IsReply self.old.state query.now result }
         ensures unchanged { self.new.state ≡ self.old.state }
         ensures agreed { IsTrue self.new.agreed → IsTrue self.old.agreed }
@@ -188,15 +193,16 @@ impl Bench {
             (query_looks self.old.state self.old.kept query.now) }
         ensures kept { self.new.kept ≡ kept_after_reply result
             (kept_after_query query.now self.old.kept) self.old.kept }
+        ensures memory { Rises (IsErrOf result AskFault.OutOfMemory) room.old room.new }
     {
         if let Query::Slice(k) = query {
-            return self.slice(alloc, *k);
+            return self.slice(room, *k);
         }
-        self.volume.ask(alloc, query)
+        self.volume.ask(room, query)
     }
 
     // Sample k of each trace that has it: E12.
-    fn slice(&mut self, alloc: Global, k: u32) -> Result<Answer, AskFault>
+    fn slice(&mut self, room: &mut Room, k: u32) -> Result<Answer, AskFault>
         ensures reply { IsTrue self.new.agreed →
             IsReply self.old.state (queries.Slice k) result }
         ensures unchanged { self.new.state ≡ self.old.state }
@@ -206,11 +212,12 @@ impl Bench {
             (query_looks self.old.state self.old.kept (queries.Slice k)) }
         ensures kept { self.new.kept ≡ kept_after_reply result
             (kept_after_query (queries.Slice k) self.old.kept) self.old.kept }
+        ensures memory { Rises (IsErrOf result AskFault.OutOfMemory) room.old room.new }
     {
         if self.volume.has_opaque_samples() {
             return Err(AskFault::NoValues);
         }
-        let rows = self.volume.slice(alloc, &mut self.slices, k)?;
+        let rows = self.volume.slice(room, &mut self.slices, k)?;
         Ok(Answer::Slice(Items::new(rows)))
     }
 

@@ -1,5 +1,6 @@
 // What an edit that was done leaves of the slices that are kept.
-ghost use Rattle.std.specs.Prelude.{◌≡◌, IsTrue, IfOk, OnErr};
+ghost use Rattle.std.specs.Prelude.{◌≡◌, IsTrue, IfOk, OnErr, IsErr, IsErrOf};
+ghost use Rattle.room.specs.Refusals.{Rises};
 ghost use Rattle.bench_rules.specs.KeptSlices.{none_kept};
 ghost use Rattle.edit_overlay.specs.CountedVolume.{RisesAtMost};
 ghost use Rattle.bench_rules.specs.Looks.{edit_looks};
@@ -10,14 +11,15 @@ ghost use Rattle.bench_core.specs.Changes.{has_moved, is_moved, entries_after};
 use bench_rules::{Edit, Refusal};
 use field_map::is_geometry;
 use live_volume::LiveVolume;
-use std::alloc::Global;
-use time_slice::{OutOfMemory, SliceCache};
+use room::{OutOfMemory, Room};
+use time_slice::SliceCache;
 
 /// Room for 8 slices, of which none is kept yet. Takes memory.
-pub fn no_slices(alloc: Global) -> Result<SliceCache, OutOfMemory>
-    ensures { IfOk result (λ slices. slices ≡ none_kept 8) }
+pub fn no_slices(room: &mut Room) -> Result<SliceCache, OutOfMemory>
+    ensures slices { IfOk result (λ slices. slices ≡ none_kept 8) }
+    ensures memory { Rises (IsErr result) room.old room.new }
 {
-    SliceCache::new(alloc, 8)
+    SliceCache::new(room, 8)
 }
 
 /// The edit in the volume. Where it is done, tells whether a set gave its trace, or a field of many
@@ -25,7 +27,7 @@ pub fn no_slices(alloc: Global) -> Result<SliceCache, OutOfMemory>
 /// and of how many traces one of chosen traces was, where it has a condition.
 pub fn change(
     volume: &mut LiveVolume,
-    alloc: Global,
+    room: &mut Room,
     edit: &Edit,
 ) -> Result<(bool, Option<u32>), Refusal>
     ensures step { IsTrue volume.new.agreed →
@@ -40,11 +42,12 @@ pub fn change(
         ≡ has_moved volume.old.state edit.now volume.new.state) }
     ensures told { IfOk result (λ done. IsTrue volume.new.agreed → done.1
         ≡ told_of volume.old.state edit.now) }
+    ensures memory { Rises (IsErrOf result Refusal.OutOfMemory) room.old room.new }
 {
     match edit {
         Edit::Set(p, _, _) => {
             let before = volume.cell(*p);
-            volume.apply(alloc, edit)?;
+            volume.apply(room, edit)?;
             Ok((is_moved(before, volume.cell(*p)), None))
         }
         Edit::Renumber {
@@ -54,7 +57,7 @@ pub fn change(
             first_value: first,
             step,
         } => {
-            let moved = volume.renumber(alloc, *a, *b, field, *first, *step)?;
+            let moved = volume.renumber(room, *a, *b, field, *first, *step)?;
             Ok((moved, None))
         }
         Edit::Compute {
@@ -64,15 +67,15 @@ pub fn change(
             source,
             steps,
         } => {
-            let moved = volume.compute(alloc, *a, *b, field, source, steps.as_slice())?;
+            let moved = volume.compute(room, *a, *b, field, source, steps.as_slice())?;
             Ok((moved, None))
         }
         Edit::OfChosen(chosen, edit) => {
-            let told = volume.apply_chosen(alloc, chosen, edit)?;
+            let told = volume.apply_chosen(room, chosen, edit)?;
             Ok((false, told))
         }
         _ => {
-            volume.apply(alloc, edit)?;
+            volume.apply(room, edit)?;
             Ok((false, None))
         }
     }

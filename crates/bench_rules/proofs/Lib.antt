@@ -37,4 +37,6 @@ pub mod FloatLemmas
 pub mod ToldLemmas
 pub mod TestLemmas
 pub mod TestTermLemmas
+pub mod MemoryLemmas
+pub mod EditMemoryLemmas
 pub mod LackLemmas

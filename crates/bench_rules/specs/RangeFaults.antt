@@ -28,5 +28,5 @@ refusal_for ReadFailed = refusals.ReadFailed
 refusal_for FileChanged = refusals.FileChanged
 refusal_for OutOfMemory = refusals.OutOfMemory
 refusal_for NoValues = refusals.NoValues
-refusal_for (NoTrace p count) = refusals.OutOfMemory
-refusal_for (NoSample k count) = refusals.OutOfMemory
+refusal_for (NoTrace p count) = refusals.NoTrace p count
+refusal_for (NoSample k count) = refusals.NoSample k count

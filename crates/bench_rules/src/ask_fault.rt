@@ -1,7 +1,7 @@
 ghost use Rattle.std.specs.Prelude.{◌≡◌};
 
 use edit_overlay::ReadFault;
-use std::alloc::{AllocError, AllocFailed};
+use room::OutOfMemory;
 use thiserror::Error;
 
 /// Why a query is refused.
@@ -47,82 +47,12 @@ impl From<ReadFault> for AskFault {
     }
 }
 
-impl From<AllocError> for AskFault {
+impl From<OutOfMemory> for AskFault {
     ghost use Rattle.bench_rules.specs.declared.ask_fault.AskFault.TheVariants.{OutOfMemory as no_memory};
 
     ghost from_gives = { λ _ fault. fault ≡ no_memory };
 
-    fn from(_: AllocError) -> AskFault {
-        AskFault::OutOfMemory
-    }
-}
-
-impl<T: Drop> From<AllocFailed<T>> for AskFault {
-    ghost use Rattle.bench_rules.specs.declared.ask_fault.AskFault.TheVariants.{OutOfMemory as no_memory};
-
-    ghost from_gives = { λ _ fault. fault ≡ no_memory };
-
-    fn from(_: AllocFailed<T>) -> AskFault {
-        AskFault::OutOfMemory
-    }
-}
-
-impl From<text_block::OutOfMemory> for AskFault {
-    ghost use Rattle.bench_rules.specs.declared.ask_fault.AskFault.TheVariants.{OutOfMemory as no_memory};
-
-    ghost from_gives = { λ _ fault. fault ≡ no_memory };
-
-    fn from(_: text_block::OutOfMemory) -> AskFault {
-        AskFault::OutOfMemory
-    }
-}
-
-impl From<grid_live::OutOfMemory> for AskFault {
-    ghost use Rattle.bench_rules.specs.declared.ask_fault.AskFault.TheVariants.{OutOfMemory as no_memory};
-
-    ghost from_gives = { λ _ fault. fault ≡ no_memory };
-
-    fn from(_: grid_live::OutOfMemory) -> AskFault {
-        AskFault::OutOfMemory
-    }
-}
-
-impl From<fault_live::OutOfMemory> for AskFault {
-    ghost use Rattle.bench_rules.specs.declared.ask_fault.AskFault.TheVariants.{OutOfMemory as no_memory};
-
-    ghost from_gives = { λ _ fault. fault ≡ no_memory };
-
-    fn from(_: fault_live::OutOfMemory) -> AskFault {
-        AskFault::OutOfMemory
-    }
-}
-
-impl From<line_problems::OutOfMemory> for AskFault {
-    ghost use Rattle.bench_rules.specs.declared.ask_fault.AskFault.TheVariants.{OutOfMemory as no_memory};
-
-    ghost from_gives = { λ _ fault. fault ≡ no_memory };
-
-    fn from(_: line_problems::OutOfMemory) -> AskFault {
-        AskFault::OutOfMemory
-    }
-}
-
-impl From<cell_positions::OutOfMemory> for AskFault {
-    ghost use Rattle.bench_rules.specs.declared.ask_fault.AskFault.TheVariants.{OutOfMemory as no_memory};
-
-    ghost from_gives = { λ _ fault. fault ≡ no_memory };
-
-    fn from(_: cell_positions::OutOfMemory) -> AskFault {
-        AskFault::OutOfMemory
-    }
-}
-
-impl From<trace_groups::OutOfMemory> for AskFault {
-    ghost use Rattle.bench_rules.specs.declared.ask_fault.AskFault.TheVariants.{OutOfMemory as no_memory};
-
-    ghost from_gives = { λ _ fault. fault ≡ no_memory };
-
-    fn from(_: trace_groups::OutOfMemory) -> AskFault {
+    fn from(_: OutOfMemory) -> AskFault {
         AskFault::OutOfMemory
     }
 }

@@ -1,8 +1,8 @@
 ghost use Rattle.std.specs.Prelude.{◌≡◌};
 
-use edit_overlay::{OutOfMemory, ReadFault};
+use edit_overlay::ReadFault;
 use field_map::MapFault;
-use std::alloc::{AllocError, AllocFailed};
+use room::OutOfMemory;
 use text_block::TextFault;
 use thiserror::Error;
 
@@ -80,26 +80,6 @@ impl From<OutOfMemory> for Refusal {
     ghost from_gives = { λ _ refusal. refusal ≡ OutOfMemory };
 
     fn from(_: OutOfMemory) -> Refusal {
-        Refusal::OutOfMemory
-    }
-}
-
-impl From<AllocError> for Refusal {
-    ghost use Rattle.bench_rules.specs.declared.refusal.Refusal.TheVariants.{OutOfMemory};
-
-    ghost from_gives = { λ _ refusal. refusal ≡ OutOfMemory };
-
-    fn from(_: AllocError) -> Refusal {
-        Refusal::OutOfMemory
-    }
-}
-
-impl<T: Drop> From<AllocFailed<T>> for Refusal {
-    ghost use Rattle.bench_rules.specs.declared.refusal.Refusal.TheVariants.{OutOfMemory};
-
-    ghost from_gives = { λ _ refusal. refusal ≡ OutOfMemory };
-
-    fn from(_: AllocFailed<T>) -> Refusal {
         Refusal::OutOfMemory
     }
 }

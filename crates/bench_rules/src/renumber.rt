@@ -1,7 +1,8 @@
 // A field of many traces counted up.
-ghost use Rattle.std.specs.Prelude.{◌≡◌, ◌<◌, ℕ, Some, IsTrue, FitsSigned, IfOk, IfErr};
+ghost use Rattle.std.specs.Prelude.{◌≡◌, ◌<◌, ℕ, Some, IsTrue, FitsSigned, IfOk, IfErr, IsErr};
 ghost use Rattle.std.specs.Int.{w128};
 ghost use Rattle.std.specs.Option.{SomeIff};
+ghost use Rattle.room.specs.Refusals.{Rises};
 ghost use Rattle.num_order.specs.Number.{IsSize, fits};
 ghost use Rattle.trace_view.specs.Shown.{bytes_of, head_of};
 ghost use Rattle.bench_rules.specs.Refused.{set_refusal as refusal_of_set};
@@ -12,7 +13,7 @@ use crate::header_field::set_refusal;
 use crate::refusal::Refusal;
 use field_map::Place;
 use num_order::{Kind, Order, write};
-use std::alloc::Global;
+use room::Room;
 use trace_view::TraceView;
 
 /// The value that stands k steps behind the first; None where 128 bits cannot hold it, and then no
@@ -54,7 +55,7 @@ pub fn renumber_refusal(
 /// The bytes of so many values, one after another: of first, first + step and so on. Takes memory
 /// for all of them at once; refused for want of it alone.
 pub fn values_bytes(
-    alloc: Global,
+    room: &mut Room,
     order: Order,
     kind: Kind,
     first: i128,
@@ -65,9 +66,10 @@ pub fn values_bytes(
     requires fit { (k : ℕ) → k < count → IsTrue (fits kind (counted first step k)) }
     ensures ok { IfOk result (λ bytes. bytes.items ≡ bytes_of_values order kind first step count) }
     ensures err { IfErr result (λ refusal. refusal ≡ no_memory) }
+    ensures memory { Rises (IsErr result) room.old room.new }
 {
     let size = usize::from(kind.size);
-    let mut bytes = Vec::with_capacity(alloc, size * count as usize)?;
+    let mut bytes = room.told(Vec::with_capacity(room.alloc(), size * count as usize))?;
     let mut buffer = [0u8; 8];
     for k in 0..count {
         // Each value fits, as the caller shows.
@@ -76,7 +78,7 @@ pub fn values_bytes(
         };
         let new = &mut buffer[..size];
         write(order, kind, value, new);
-        bytes.extend_from_slice(new)?;
+        room.told(bytes.extend_from_slice(new))?;
     }
     Ok(bytes)
 }

@@ -1,5 +1,6 @@
 // Another number of samples of one trace.
-ghost use Rattle.std.specs.Prelude.{◌≡◌, ◌≤◌, length, IfOk, IfErr};
+ghost use Rattle.std.specs.Prelude.{◌≡◌, ◌≤◌, length, IfOk, IfErr, IsErr};
+ghost use Rattle.room.specs.Refusals.{Rises};
 ghost use Rattle.frame_cut.specs.Frames.{front_length};
 ghost use Rattle.trace_view.specs.Shown.{bytes_of, head_of};
 ghost use Rattle.bench_rules.specs.Refused.{count_refusal as refusal_of_count, is_sample_count as is_count};
@@ -12,7 +13,7 @@ use crate::trace_bytes::zeros;
 use field_map::TRACE_HEADER_BYTES;
 use frame_cut::Head;
 use num_order::{Kind, write};
-use std::alloc::Global;
+use room::Room;
 use trace_view::TraceView;
 
 /// The first refusal of m samples in the trace, which stands in a file of `file` bytes that may
@@ -38,14 +39,15 @@ pub fn count_refusal(trace: &TraceView<'_>, file: u64, limit: u64, m: i128) -> O
 
 /// The bytes of the trace with m samples, as its headers say: its first ones as they were, and
 /// zeros behind them. Takes memory for all of them at once; refused for want of it alone.
-pub fn resized(alloc: Global, trace: &TraceView<'_>, m: u32) -> Result<Vec<u8>, Refusal>
+pub fn resized(room: &mut Room, trace: &TraceView<'_>, m: u32) -> Result<Vec<u8>, Refusal>
     ensures ok { IfOk result (λ bytes. bytes.items ≡ bytes_resized (head_of trace.now)
         (bytes_of trace.now) m) }
     ensures err { IfErr result (λ refusal. refusal ≡ no_memory) }
+    ensures memory { Rises (IsErr result) room.old room.new }
 {
     let head = trace.head();
     let length = sample_place(head.format, trace, m);
-    let mut bytes = zeros(alloc, length as usize)?;
+    let mut bytes = zeros(room, length as usize)?;
     let kept = length.min(trace.length()) as usize;
     let all = bytes.as_mut_slice();
     trace.read(0, &mut all[..kept]);

@@ -7,7 +7,6 @@
 
 mod cell;
 mod jumps;
-mod out_of_memory;
 mod pairs;
 mod shared;
 mod survey;
@@ -15,7 +14,6 @@ mod trace_pair;
 
 pub use crate::cell::Cell;
 pub use crate::jumps::Jumps;
-pub use crate::out_of_memory::OutOfMemory;
 pub use crate::pairs::Pair;
 pub use crate::shared::{PlacedCell, SharedPositions};
 pub use crate::survey::SurveyGrid;

@@ -6,3 +6,4 @@ mod ChoosingFaultLemmas
 mod RecordLemmas
 mod BesideLemmas
 mod ToldLemmas
+mod RangeLemmas

@@ -1,5 +1,6 @@
 // The answers to queries about the traces that conditions choose.
-ghost use Rattle.std.specs.Prelude.{◌≡◌, ◌⊎◌, ◌+◌, ◌<◌, None, Ok, Err, IsTrue, IfOk, IfErr, length, map as map_of};
+ghost use Rattle.std.specs.Prelude.{◌≡◌, ◌⊎◌, ◌+◌, ◌<◌, None, Ok, Err, IsTrue, IfOk, IfErr, length, map as map_of, IsErrOf, ◌≢◌};
+ghost use Rattle.room.specs.Refusals.{Rises};
 ghost use Rattle.frame_cut.specs.Traces.{count_of};
 ghost use Rattle.trace_record.specs.Packed.{record_in};
 ghost use Rattle.edit_overlay.specs.CountedVolume.{IsSeen, RisesAtMost};
@@ -27,8 +28,8 @@ use edit_overlay::Overlay;
 use field_map::FieldMap;
 use header_answers::{extremes_among, found_among, named_places};
 use many_traces::{have_places, table_among};
+use room::Room;
 use sample_answers::stats_among;
-use std::alloc::Global;
 use trace_record::PackedRecord;
 
 /// What is asked of the traces that are chosen. Looks once at each trace of the range to choose
@@ -37,7 +38,7 @@ use trace_record::PackedRecord;
 /// else E02, E12 of a condition, E03, then E12 of what is asked of the traces, and E11 in the place
 /// of any of these. On disk also where a trace could not be read (E14, E15).
 pub fn chosen_answer(
-    alloc: Global,
+    room: &mut Room,
     overlay: &mut Overlay<PackedRecord>,
     map: &FieldMap,
     chosen: &Chosen,
@@ -54,6 +55,7 @@ pub fn chosen_answer(
     ensures looks { IsTrue overlay.new.agreed → HasRecords overlay.old map.now.pairs →
         RisesAtMost overlay.old.looks overlay.new.looks
         (chosen_query_looks overlay.old.volume map.now.pairs chosen.now query.now) }
+    ensures memory { Rises (IsErrOf result AskFault.OutOfMemory) room.old room.new }
 {
     if let Some(fault) = fault_of_range(overlay, chosen) {
         return Err(fault);
@@ -61,11 +63,11 @@ pub fn chosen_answer(
     if !asks_for_fields(map, query) {
         return Err(AskFault::NoField);
     }
-    let traces = match choose(alloc, overlay, map, chosen) {
+    let traces = match choose(room, overlay, map, chosen) {
         Ok(traces) => traces,
         Err(fault) => return Err(fault),
     };
-    told(alloc, overlay, map, traces, query)
+    told(room, overlay, map, traces, query)
 }
 
 // The first fault of the range, where there is one.
@@ -94,7 +96,7 @@ fn asks_for_fields(map: &FieldMap, query: &ChosenQuery) -> bool
 
 // What is asked of these traces, which rise.
 fn told(
-    alloc: Global,
+    room: &mut Room,
     overlay: &mut Overlay<PackedRecord>,
     map: &FieldMap,
     traces: Vec<u32>,
@@ -109,6 +111,7 @@ fn told(
         (IsTrue overlay.new.agreed → answer_of_each overlay.old.volume map.now.pairs query.now
         traces.items ≡ Err fault)) }
     ensures seen { IsSeen overlay.old overlay.new (asking_looks query.now (length traces.items)) }
+    ensures memory { Rises (IsErrOf result AskFault.OutOfMemory) room.old room.new }
 {
     match query {
         ChosenQuery::Count => {
@@ -118,18 +121,18 @@ fn told(
             Ok(Answer::Chosen(traces.len() as u32))
         }
         ChosenQuery::Table(fields) => {
-            let rows = table_among(alloc, overlay, map, traces, fields.as_slice())?;
+            let rows = table_among(room, overlay, map, traces, fields.as_slice())?;
             Ok(Answer::Table(rows))
         }
         ChosenQuery::Find(field, low, high) => {
-            found(alloc, overlay, map, traces.as_slice(), field, *low, *high)
+            found(room, overlay, map, traces.as_slice(), field, *low, *high)
         }
         ChosenQuery::Extremes => {
-            let names = named_places(alloc, map)?;
-            let extremes = extremes_among(alloc, overlay, traces.as_slice(), names)?;
+            let names = named_places(room, map)?;
+            let extremes = extremes_among(room, overlay, traces.as_slice(), names)?;
             Ok(Answer::Extremes(extremes))
         }
-        ChosenQuery::Stats => stats_among(alloc, overlay, traces.as_slice()),
+        ChosenQuery::Stats => stats_among(room, overlay, traces.as_slice()),
         ChosenQuery::Samples(range) => section(overlay, traces, *range),
     }
 }
@@ -140,7 +143,8 @@ fn section(
     traces: Vec<u32>,
     samples: SampleRange,
 ) -> Result<Answer, AskFault>
-    ensures { result ≡ section_answer_of_each overlay.now.volume samples traces.items }
+    ensures reply { result ≡ section_answer_of_each overlay.now.volume samples traces.items }
+    ensures other { IfErr result (λ fault. fault ≢ AskFault.OutOfMemory) }
 {
     if has_opaque_samples(overlay) {
         return Err(AskFault::NoValues);
@@ -153,7 +157,7 @@ fn section(
 
 // Those of these traces whose field has a number from low to high: E02 where it has no place.
 fn found(
-    alloc: Global,
+    room: &mut Room,
     overlay: &mut Overlay<PackedRecord>,
     map: &FieldMap,
     traces: &[u32],
@@ -170,10 +174,11 @@ fn found(
         (IsTrue overlay.new.agreed → found_answer_of_each overlay.old.volume traces.now low high
         (place_of_field map.now.pairs field.now) ≡ Err fault)) }
     ensures seen { IsSeen overlay.old overlay.new (length traces.now) }
+    ensures memory { Rises (IsErrOf result AskFault.OutOfMemory) room.old room.new }
 {
     let Some(place) = place_in_trace(map, field) else {
         return Err(AskFault::NoField);
     };
-    let found = found_among(alloc, overlay, place, low, high, traces)?;
+    let found = found_among(room, overlay, place, low, high, traces)?;
     Ok(Answer::Found(found))
 }

@@ -1,6 +1,7 @@
 // The list of the traces that conditions choose.
-ghost use Rattle.std.specs.Prelude.{ℕ, Option, ◌≡◌, ◌⊎◌, ◌+◌, ◌-◌, ◌<◌, ◌≤◌, [], ◌∷◌, ◌++◌, length, None, Some, IsTrue, IfOk, IfErr, OnOk, false, if◌then◌else◌};
+ghost use Rattle.std.specs.Prelude.{ℕ, Option, ◌≡◌, ◌⊎◌, ◌+◌, ◌-◌, ◌<◌, ◌≤◌, [], ◌∷◌, ◌++◌, length, None, Some, IsTrue, IfOk, IfErr, OnOk, false, if◌then◌else◌, IsErr, IsErrOf};
 ghost use Rattle.std.specs.List.{range_with_len};
+ghost use Rattle.room.specs.Refusals.{Rises};
 ghost use Rattle.field_map.specs.Pairs.{Pairs};
 ghost use Rattle.frame_cut.specs.Traces.{count_of, is_trace, trace_at};
 ghost use Rattle.edit_overlay.specs.CountedVolume.{IsSeen};
@@ -21,7 +22,7 @@ use bench_rules::{
 use edit_overlay::{Overlay, ReadFault};
 use field_map::FieldMap;
 use record_table::Records;
-use std::alloc::{AllocError, Global};
+use room::{OutOfMemory, Room};
 use trace_record::{Amplitudes, PackedRecord};
 
 /// The traces of the range that meet all conditions, in order. Looks once at each trace of the
@@ -30,7 +31,7 @@ use trace_record::{Amplitudes, PackedRecord};
 /// asked for, E03 where a trace lacks a place; E11 may come in the place of any of these. On disk
 /// also where a trace could not be read (E14, E15).
 pub fn choose(
-    alloc: Global,
+    room: &mut Room,
     overlay: &mut Overlay<PackedRecord>,
     map: &FieldMap,
     chosen: &Chosen,
@@ -50,21 +51,22 @@ pub fn choose(
         choosing_fault overlay.old.volume map.now.pairs chosen.now ≡ Some fault)) }
     ensures seen { IsSeen overlay.old overlay.new
         (choosing_looks overlay.old.volume map.now.pairs chosen.now) }
+    ensures memory { Rises (IsErrOf result AskFault.OutOfMemory) room.old room.new }
 {
-    let tests = asked_tests(alloc, overlay, map, chosen.conditions.as_slice())?;
+    let tests = asked_tests(room, overlay, map, chosen.conditions.as_slice())?;
     let Some((first, last)) = chosen.traces else {
-        return Ok(Vec::new(alloc));
+        return Ok(Vec::new(room.alloc()));
     };
     if tests.len() == 0 {
-        return Ok(all(alloc, first, last)?);
+        return Ok(all(room, first, last)?);
     }
-    chosen_of(alloc, overlay, map, first, last, tests.as_slice())
+    chosen_of(room, overlay, map, first, last, tests.as_slice())
 }
 
 // Those of traces a to b that meet all conditions: by their records, where these tell both sides of
 // each, else in one look at each trace.
 fn chosen_of(
-    alloc: Global,
+    room: &mut Room,
     overlay: &mut Overlay<PackedRecord>,
     map: &FieldMap,
     a: u32,
@@ -85,17 +87,18 @@ fn chosen_of(
         tests.now (range_with_len a (b + 1 - a)) ≡ None))) }
     ensures seen { IsSeen overlay.old overlay.new
         (if tells_tests map.now.pairs tests.now then 0 else b + 1 - a) }
+    ensures memory { Rises (IsErrOf result AskFault.OutOfMemory) room.old room.new }
 {
-    match record_tests(alloc, map, tests)? {
-        Some(told) => Ok(chosen_by_records(alloc, overlay, a, b, told.as_slice())?),
-        None => chosen_from(alloc, overlay, a, b, tests),
+    match record_tests(room, map, tests)? {
+        Some(told) => Ok(chosen_by_records(room, overlay, a, b, told.as_slice())?),
+        None => chosen_from(room, overlay, a, b, tests),
     }
 }
 
 // The conditions with the places of their fields: E02 where one has none, E12 where samples have no
 // values that are asked for.
 fn asked_tests(
-    alloc: Global,
+    room: &mut Room,
     overlay: &Overlay<PackedRecord>,
     map: &FieldMap,
     conditions: &[Condition],
@@ -105,8 +108,9 @@ fn asked_tests(
     ensures err { IfErr result (λ fault. (fault ≡ no_memory) ⊎ ((range : Option (ℕ × ℕ)) →
         fault_under overlay.now.volume range (tests_of_conditions map.now.pairs conditions.now)
         ≡ Some fault)) }
+    ensures memory { Rises (IsErrOf result AskFault.OutOfMemory) room.old room.new }
 {
-    let tests = match tests_of(alloc, map, conditions) {
+    let tests = match tests_of(room, map, conditions) {
         Ok(tests) => tests,
         Err(fault) => return Err(fault),
     };
@@ -117,39 +121,46 @@ fn asked_tests(
 }
 
 // The conditions with the places of their fields: E02 where one has none.
-fn tests_of(alloc: Global, map: &FieldMap, conditions: &[Condition]) -> Result<Vec<Test>, AskFault>
+fn tests_of(
+    room: &mut Room,
+    map: &FieldMap,
+    conditions: &[Condition],
+) -> Result<Vec<Test>, AskFault>
     ensures ok { IfOk result (λ tests. tests_of_conditions map.now.pairs conditions.now
         ≡ Some tests.items) }
     ensures err { IfErr result (λ fault. (fault ≡ no_memory) ⊎ ((fault ≡ no_field) ×
         (tests_of_conditions map.now.pairs conditions.now ≡ None))) }
+    ensures memory { Rises (IsErrOf result AskFault.OutOfMemory) room.old room.new }
 {
-    let mut tests = Vec::with_capacity(alloc, conditions.len())?;
+    let mut tests = room.told(Vec::with_capacity(room.alloc(), conditions.len()))?;
     for condition in conditions {
         let Some(test) = test_of(map, condition) else {
             return Err(AskFault::NoField);
         };
-        tests.push(test)?;
+        room.told_back(tests.push(test))?;
     }
     Ok(tests)
 }
 
 // All traces from one to another.
-fn all(alloc: Global, first: u32, last: u32) -> Result<Vec<u32>, AllocError>
+fn all(room: &mut Room, first: u32, last: u32) -> Result<Vec<u32>, OutOfMemory>
     requires { first ≤ last }
-    ensures { IfOk result (λ traces. traces.items ≡ range_with_len first (last + 1 - first)) }
+    ensures traces { IfOk result (λ traces. traces.items ≡
+        range_with_len first (last + 1 - first)) }
+    ensures memory { Rises (IsErr result) room.old room.new }
 {
     let count = last - first;
-    let mut traces = Vec::with_capacity(alloc, count as usize + 1)?;
+    let mut traces = room.told(Vec::with_capacity(room.alloc(), count as usize + 1))?;
     for k in 0..count {
-        traces.push(first + k)?;
+        room.told_back(traces.push(first + k))?;
     }
-    traces.push(last)?;
+    room.told_back(traces.push(last))?;
     Ok(traces)
 }
 
 // Those of traces a to b that meet all conditions: E03 where one of the traces lacks a place.
 fn chosen_from(
-    alloc: Global,
+    room: &mut Room,
     overlay: &mut Overlay<PackedRecord>,
     a: u32,
     b: u32,
@@ -167,26 +178,33 @@ fn chosen_from(
         ((fault ≡ no_place) × (IsTrue overlay.new.agreed → chosen_among overlay.old.volume
         tests.now (range_with_len a (b + 1 - a)) ≡ None))) }
     ensures seen { IsSeen overlay.old overlay.new (b + 1 - a) }
+    ensures memory { Rises (IsErrOf result AskFault.OutOfMemory) room.old room.new }
 {
     // Most conditions are on numbers of header fields, which need no record beside the trace.
     let beside = ask_values(tests);
-    let mut traces = Vec::new(alloc);
+    let mut traces = Vec::new(room.alloc());
     for k in 0..b - a + 1 {
         let Some(is_chosen) = judged(overlay, a + k, tests, beside)? else {
             return Err(AskFault::NoPlace);
         };
-        keep(&mut traces, a + k, is_chosen)?;
+        keep(room, &mut traces, a + k, is_chosen)?;
     }
     Ok(traces)
 }
 
 // Puts the trace behind others, where it is chosen.
-pub(crate) fn keep(traces: &mut Vec<u32>, p: u32, is_chosen: bool) -> Result<(), AllocError>
-    ensures { OnOk result (traces.new.items ≡ (if is_chosen then traces.old.items ++ p ∷ []
+pub(crate) fn keep(
+    room: &mut Room,
+    traces: &mut Vec<u32>,
+    p: u32,
+    is_chosen: bool,
+) -> Result<(), OutOfMemory>
+    ensures traces { OnOk result (traces.new.items ≡ (if is_chosen then traces.old.items ++ p ∷ []
         else traces.old.items)) }
+    ensures memory { Rises (IsErr result) room.old room.new }
 {
     if is_chosen {
-        traces.push(p)?;
+        room.told_back(traces.push(p))?;
     }
     Ok(())
 }

@@ -1,5 +1,6 @@
 // Conditions whose sides the records beside the traces tell.
-ghost use Rattle.std.specs.Prelude.{◌≡◌, is_some, IfOk, IfSome};
+ghost use Rattle.std.specs.Prelude.{◌≡◌, is_some, IfOk, IfSome, IsErr};
+ghost use Rattle.room.specs.Refusals.{Rises};
 ghost use Rattle.trace_record.specs.Facts.{facts_of};
 ghost use Rattle.bench_rules.specs.RecordNumbers.{is_one_number as is_one_number_of, tells_place, tells_side, tells_term, tells_test, tells_tests};
 ghost use Rattle.bench_rules.specs.declared.term.Term.TheVariants as terms;
@@ -9,7 +10,7 @@ use bench_rules::{Comparison, SampleFact, SideValue, Term, Test, TestSide, compa
 use exact_amounts::Amount;
 use field_map::{FieldMap, Place};
 use num_order::Kind;
-use std::alloc::{AllocError, Global};
+use room::{OutOfMemory, Room};
 use trace_record::Record;
 
 // Where the sequence number stands in each trace.
@@ -50,20 +51,21 @@ pub(crate) struct RecordTest {
 
 // The same conditions on the record of a trace; `None` where it does not tell a side of one.
 pub(crate) fn record_tests(
-    alloc: Global,
+    room: &mut Room,
     map: &FieldMap,
     tests: &[Test],
-) -> Result<Option<Vec<RecordTest>>, AllocError>
+) -> Result<Option<Vec<RecordTest>>, OutOfMemory>
     ensures exact { IfOk result (λ told. is_some told ≡ tells_tests map.now.pairs tests.now) }
     ensures tests { IfOk result (λ told. IfSome told
         (λ made. AreTestsOf map.now.pairs tests.now made.items)) }
+    ensures memory { Rises (IsErr result) room.old room.new }
 {
-    let mut told = Vec::with_capacity(alloc, tests.len())?;
+    let mut told = room.told(Vec::with_capacity(room.alloc(), tests.len()))?;
     for test in tests {
         let Some(one) = record_test(map, *test) else {
             return Ok(None);
         };
-        told.push(one)?;
+        room.told_back(told.push(one))?;
     }
     Ok(Some(told))
 }

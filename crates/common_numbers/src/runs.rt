@@ -1,9 +1,10 @@
-ghost use Rattle.std.specs.Prelude.{◌≡◌, ◌∷◌, IfOk};
+ghost use Rattle.std.specs.Prelude.{◌≡◌, ◌∷◌, IfOk, IsErr};
 ghost use Rattle.std.specs.List.Sorted.{IsSorted};
 ghost use Rattle.std.specs.Ordering.{int_cmp};
+ghost use Rattle.room.specs.Refusals.{Rises};
 ghost use Rattle.common_numbers.specs.Commonest.{IsCommonest, commonest as commonest_of};
 
-use std::alloc::{AllocError, Global};
+use room::{OutOfMemory, Room};
 
 // A number with how often it stands in a list.
 #[derive(Clone, Copy)]
@@ -14,11 +15,12 @@ struct Run {
 
 /// The number that stands most often in the list, and of several the least; nothing of an empty
 /// list. Takes 8 bytes a number, for a copy that it sorts, and is refused only where those are.
-pub fn commonest(alloc: Global, numbers: &[i64]) -> Result<Option<i64>, AllocError>
-    ensures { IfOk result (λ c. c ≡ commonest_of numbers.now) }
+pub fn commonest(room: &mut Room, numbers: &[i64]) -> Result<Option<i64>, OutOfMemory>
+    ensures number { IfOk result (λ c. c ≡ commonest_of numbers.now) }
+    ensures memory { Rises (IsErr result) room.old room.new }
 {
-    let mut rising = Vec::new(alloc);
-    rising.extend_from_slice(numbers)?;
+    let mut rising = Vec::new(room.alloc());
+    room.told(rising.extend_from_slice(numbers))?;
     rising.sort_unstable();
     let Some((first, others)) = rising.split_first() else {
         return Ok(None);

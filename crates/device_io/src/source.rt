@@ -1,13 +1,14 @@
 // A reader that counts its failures.
-ghost use Rattle.std.specs.Prelude.{◌≡◌, ◌≤◌, [], length, IfOk, IfErr, MatchResult};
+ghost use Rattle.std.specs.Prelude.{◌≡◌, ◌≤◌, [], length, IfOk, IfErr, IsErrOf, MatchResult};
 ghost use Rattle.std.specs.Io.{ReadsAtMost};
 ghost use Rattle.std.specs.Io.KnownBytes.{ReadConsumes};
+ghost use Rattle.room.specs.Refusals.{Rises};
 ghost use Rattle.device_io.specs.Failures.{CountsFailure};
 ghost use Rattle.device_io.specs.WholeReads.{FailuresAfter, GivesAll, GivesBefore};
 
 use crate::failed::Failed;
 use crate::read_fault::ReadFault;
-use std::alloc::Global;
+use room::Room;
 use std::io::Read;
 use std::marker::Model;
 
@@ -70,9 +71,10 @@ impl<R: Read> Source<R> {
     }
 
     /// All bytes up to the reader's end, which are at most `limit`. Takes memory for them. Refused
-    /// where a read failed, where there are more than `limit`, and where a growth was refused; the
-    /// bytes read before are then dropped. Never more than one byte above the limit is asked for.
-    pub fn read_up_to(&mut self, alloc: Global, limit: u64) -> Result<Vec<u8>, ReadFault>
+    /// where a read failed, where there are more than `limit`, and where a growth was refused in
+    /// this call; the bytes read before are then dropped. Never more than one byte above the limit
+    /// is asked for.
+    pub fn read_up_to(&mut self, room: &mut Room, limit: u64) -> Result<Vec<u8>, ReadFault>
         ensures all { IfOk result (λ v. GivesAll (R.remaining self.old.inner)
             (R.remaining self.new.inner) v.items) }
         ensures within { IfOk result (λ v. length v.items ≤ limit) }
@@ -80,9 +82,10 @@ impl<R: Read> Source<R> {
             (R.remaining self.new.inner) limit) }
         ensures failures { MatchResult result (λ _. self.new.failures ≡ self.old.failures)
             (λ fault. FailuresAfter fault self.old.failures self.new.failures) }
+        ensures memory { Rises (IsErrOf result ReadFault.OutOfMemory) room.old room.new }
     {
         let most = limit as usize;
-        let mut bytes = room_for(alloc, self.expected.min(limit));
+        let mut bytes = room_for(room, self.expected.min(limit));
         let mut chunk = [0u8; CHUNK];
         'turns: while bytes.len() <= most {
             let want = CHUNK.min((most - bytes.len()).saturating_add(1));
@@ -93,7 +96,7 @@ impl<R: Read> Source<R> {
             if count == 0 {
                 return Ok(bytes);
             }
-            if bytes.extend_from_slice(&chunk[..count]).is_err() {
+            if room.told(bytes.extend_from_slice(&chunk[..count])).is_err() {
                 return Err(ReadFault::OutOfMemory);
             }
         }
@@ -115,12 +118,13 @@ impl<R: Read> Source<R> {
     }
 }
 
-// No bytes yet, and room for so many, where memory gives it.
-fn room_for(alloc: Global, count: u64) -> Vec<u8>
-    ensures { result.items ≡ [] }
+// No bytes yet, and memory for so many, where there is that much.
+fn room_for(room: &mut Room, count: u64) -> Vec<u8>
+    ensures items { result.items ≡ [] }
+    ensures memory { room.old ≤ room.new }
 {
-    match Vec::with_capacity(alloc, count as usize) {
+    match room.told(Vec::with_capacity(room.alloc(), count as usize)) {
         Ok(bytes) => bytes,
-        Err(_) => Vec::new(alloc),
+        Err(_) => Vec::new(room.alloc()),
     }
 }

@@ -16,7 +16,8 @@
 //! `prepare_put`, `prepare_put_each` and `prepare_put_over` take memory for the runs of the traces
 //! that they change; `insert` for one slot, for what holds its bytes, and for room in the order,
 //! `move_to` and `prepare_move` for room in the order. Each of them may be refused for want of
-//! memory, and then nothing is changed. No other call takes any.
+//! memory, only where a growth was refused in that call, and then nothing is changed. No other call
+//! takes any.
 //!
 //! A put or a move has two parts for a caller that has to show its outcome first, or to take memory
 //! elsewhere too: `prepare_put`, `prepare_put_each`, `prepare_put_over` and `prepare_move` take all
@@ -45,4 +46,5 @@ pub use crate::overlay::Overlay;
 pub use crate::pass_fault::PassFault;
 pub use crate::save_fault::SaveFault;
 pub use base_file::ReadFault;
-pub use trace_store::{Column, OutOfMemory, Payloads};
+pub use room::OutOfMemory;
+pub use trace_store::{Column, Payloads};

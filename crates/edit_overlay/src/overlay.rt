@@ -1,5 +1,6 @@
-ghost use Rattle.std.specs.Prelude.{ℕ, ◌≡◌, ◌⊎◌, ◌↔◌, ◌+◌, ◌-◌, ◌/◌, ◌%◌, ◌≤◌, ◌<◌, ◌^◌, false, [], length, slice_index_or, get_or, option_map, slice_get, slice_set, map, Some, All, IfOk, IfErr, IfSome, IsSome, IsTrue, OnOk, OnErr, MatchResult};
+ghost use Rattle.std.specs.Prelude.{ℕ, ◌≡◌, ◌⊎◌, ◌↔◌, ◌+◌, ◌-◌, ◌/◌, ◌%◌, ◌≤◌, ◌<◌, ◌^◌, false, [], length, slice_index_or, get_or, option_map, slice_get, slice_set, map, Some, All, IfOk, IfErr, IfSome, IsErr, IsSome, IsTrue, OnOk, OnErr, MatchResult};
 ghost use Rattle.std.specs.Borrow.{sem};
+ghost use Rattle.room.specs.Refusals.{Rises};
 ghost use Rattle.frame_cut.specs.Cuts.{IsTrace};
 ghost use Rattle.frame_cut.specs.Splice.{splice};
 ghost use Rattle.frame_cut.specs.Traces.{count_of, is_trace, trace_at, with_trace};
@@ -21,11 +22,11 @@ use crate::writing_out::write_volume;
 use base_file::ReadFault;
 use device_io::Sink;
 use frame_cut::{BINARY_HEADER_BYTES, FILE_HEADER_BYTES, Head, LoadFault};
-use std::alloc::Global;
+use room::{OutOfMemory, Room};
 use std::io::Write;
 use std::marker::Model;
 use text_block::TEXT_BLOCK_BYTES;
-use trace_store::{Base, Column, OutOfMemory, TraceStore};
+use trace_store::{Base, Column, TraceStore};
 use trace_view::TraceView;
 
 // How many traces are brought nearer at once.
@@ -328,7 +329,7 @@ impl<T: Copy> Overlay<T> {
     /// then nothing is changed.
     pub fn prepare_put(
         &mut self,
-        alloc: Global,
+        room: &mut Room,
         p: u32,
         at: u64,
         bytes: &[u8],
@@ -341,8 +342,9 @@ impl<T: Copy> Overlay<T> {
         ensures ok { OnOk result (self.new ≡ with_prepared self.old (with_trace self.old.volume p
             (splice (trace_at self.old.volume p) at (length bytes.now) bytes.now))) }
         ensures err { OnErr result (self.new ≡ self.old) }
+        ensures memory { Rises (IsErr result) room.old room.new }
     {
-        let prepared = self.laid.store.prepare_put(alloc, p, at, bytes)?;
+        let prepared = self.laid.store.prepare_put(room, p, at, bytes)?;
         self.laid.prepared = Some(prepared);
         Ok(())
     }
@@ -354,7 +356,7 @@ impl<T: Copy> Overlay<T> {
     /// these traces; may be refused for want of memory alone, and then nothing is changed.
     pub fn prepare_put_each(
         &mut self,
-        alloc: Global,
+        room: &mut Room,
         a: u32,
         at: u64,
         size: u32,
@@ -373,8 +375,9 @@ impl<T: Copy> Overlay<T> {
         ensures ok { OnOk result
             (self.new ≡ with_prepared self.old (with_each self.old.volume a at size bytes.now)) }
         ensures err { OnErr result (self.new ≡ self.old) }
+        ensures memory { Rises (IsErr result) room.old room.new }
     {
-        let prepared = self.laid.store.prepare_put_each(alloc, a, at, size, bytes)?;
+        let prepared = self.laid.store.prepare_put_each(room, a, at, size, bytes)?;
         self.laid.prepared = Some(prepared);
         Ok(())
     }
@@ -386,7 +389,7 @@ impl<T: Copy> Overlay<T> {
     /// these traces; may be refused for want of memory alone, and then nothing is changed.
     pub fn prepare_put_over(
         &mut self,
-        alloc: Global,
+        room: &mut Room,
         a: u32,
         places: &[u64],
         bytes: &[u8],
@@ -403,8 +406,9 @@ impl<T: Copy> Overlay<T> {
         ensures ok { OnOk result (self.new ≡ with_prepared self.old
             (with_over self.old.volume a places.now bytes.now)) }
         ensures err { OnErr result (self.new ≡ self.old) }
+        ensures memory { Rises (IsErr result) room.old room.new }
     {
-        let prepared = self.laid.store.prepare_put_over(alloc, a, places, bytes)?;
+        let prepared = self.laid.store.prepare_put_over(room, a, places, bytes)?;
         self.laid.prepared = Some(prepared);
         Ok(())
     }
@@ -413,7 +417,7 @@ impl<T: Copy> Overlay<T> {
     /// both counted from 1; in place of what was prepared before. The volume stays as it is. Takes
     /// memory for room in the order; may be refused for want of memory alone, and then nothing is
     /// changed.
-    pub fn prepare_move(&mut self, alloc: Global, a: u32, b: u32) -> Result<(), OutOfMemory>
+    pub fn prepare_move(&mut self, room: &mut Room, a: u32, b: u32) -> Result<(), OutOfMemory>
         requires from_first { 1 ≤ a }
         requires from_last { a ≤ count_of self.old.volume }
         requires to_first { 1 ≤ b }
@@ -422,8 +426,9 @@ impl<T: Copy> Overlay<T> {
             (self.new ≡ with_table_prepared self.old (with_moved self.old.volume a b)
             (payloads_moved self.old.payloads a b)) }
         ensures err { OnErr result (self.new ≡ self.old) }
+        ensures memory { Rises (IsErr result) room.old room.new }
     {
-        let prepared = self.laid.store.prepare_move(alloc, a, b)?;
+        let prepared = self.laid.store.prepare_move(room, a, b)?;
         self.laid.prepared = Some(prepared);
         Ok(())
     }
@@ -464,7 +469,7 @@ impl<T: Copy> Overlay<T> {
     /// then nothing is changed, and the bytes are dropped.
     pub fn insert(
         &mut self,
-        alloc: Global,
+        room: &mut Room,
         p: u32,
         bytes: Vec<u8>,
         payload: T,
@@ -478,11 +483,12 @@ impl<T: Copy> Overlay<T> {
             (self.new ≡ with_table self.old (with_inserted self.old.volume p bytes.items)
             (insert self.old.payloads (p - 1) payload)) }
         ensures err { OnErr result (self.new ≡ self.old) }
+        ensures memory { Rises (IsErr result) room.old room.new }
     {
         let added = bytes.len() as u64;
         self.laid
             .store
-            .insert(alloc, p, Base::Added(bytes), payload)?;
+            .insert(room, p, Base::Added(bytes), payload)?;
         self.laid.prepared = None;
         self.length += added;
         Ok(())
@@ -525,7 +531,7 @@ impl<T: Copy> Overlay<T> {
 
     /// Takes trace a out, and puts it in again so that it is trace b; both count from 1. May be
     /// refused for want of memory alone, and then nothing is changed.
-    pub fn move_to(&mut self, alloc: Global, a: u32, b: u32) -> Result<(), OutOfMemory>
+    pub fn move_to(&mut self, room: &mut Room, a: u32, b: u32) -> Result<(), OutOfMemory>
         requires from_first { 1 ≤ a }
         requires from_last { a ≤ count_of self.old.volume }
         requires to_first { 1 ≤ b }
@@ -534,8 +540,9 @@ impl<T: Copy> Overlay<T> {
             (self.new ≡ with_table self.old (with_moved self.old.volume a b)
             (payloads_moved self.old.payloads a b)) }
         ensures err { OnErr result (self.new ≡ self.old) }
+        ensures memory { Rises (IsErr result) room.old room.new }
     {
-        self.prepare_move(alloc, a, b)?;
+        self.prepare_move(room, a, b)?;
         self.commit();
         Ok(())
     }

@@ -1,21 +1,25 @@
 // What a trace's header agrees with, one call for each fault.
-ghost use Rattle.std.specs.Prelude.{◌≡◌, pos, not, ◌&&◌, ◌||◌, ◌==◌, ◌++◌, OnOk};
+ghost use Rattle.std.specs.Prelude.{◌≡◌, pos, not, ◌&&◌, ◌||◌, ◌==◌, ◌++◌, OnOk, IsErr};
 ghost use Rattle.std.specs.Ordering.{int_eq};
+ghost use Rattle.room.specs.Refusals.{Rises};
 ghost use Rattle.fault_live.specs.Faults.{is_scalar, is_revision_2, unless};
 
-use crate::{Fault, HeadFacts, OutOfMemory};
+use crate::{Fault, HeadFacts};
+use room::{OutOfMemory, Room};
 use trace_record::Record;
 
 // The fault at the end of the report, unless the test holds.
 pub(crate) fn push_unless(
+    room: &mut Room,
     report: &mut Vec<Fault>,
     holds: bool,
     fault: Fault,
 ) -> Result<(), OutOfMemory>
-    ensures { OnOk result (report.new.items ≡ report.old.items ++ unless holds fault) }
+    ensures items { OnOk result (report.new.items ≡ report.old.items ++ unless holds fault) }
+    ensures memory { Rises (IsErr result) room.old room.new }
 {
     if !holds {
-        report.push(fault)?;
+        room.told_back(report.push(fault))?;
     }
     Ok(())
 }

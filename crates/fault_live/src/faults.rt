@@ -1,6 +1,7 @@
-ghost use Rattle.std.specs.Prelude.{◌≡◌, ◌+◌, ℤ, OnOk, OnErr, IsOk, IfOk, Some, unwrap_or, cond, nat_lt, ◌<◌, ◌≤◌, ◌^◌, length, map, ◌&&◌};
+ghost use Rattle.std.specs.Prelude.{◌≡◌, ◌+◌, ℤ, OnOk, OnErr, IsOk, IfOk, Some, unwrap_or, cond, nat_lt, ◌<◌, ◌≤◌, ◌^◌, length, map, ◌&&◌, IsErr};
 ghost use Rattle.std.specs.Ordering.{is_eq};
 ghost use Rattle.std.specs.BTreeMap.{get};
+ghost use Rattle.room.specs.Refusals.{Rises};
 ghost use Rattle.key_counts.specs.Counts.{count_of};
 ghost use Rattle.trace_record.specs.Facts.{facts_of};
 ghost use Rattle.fault_live.specs.FaultKeys.{keys_of_faults};
@@ -13,9 +14,10 @@ ghost use Rattle.fault_live.specs.Faults.{faults_of};
 
 use crate::firsts::{first_place, key_alone, key_beside, key_of, keys_of, window_of};
 use crate::report::{push_head, push_trace, units_of_first};
-use crate::{Fault, HeadFacts, OutOfMemory};
+use crate::{Fault, HeadFacts};
 use key_counts::{lower_any, raise_any};
 use record_table::{Records, Running};
+use room::{OutOfMemory, Room};
 use std::alloc::Global;
 use std::collections::BTreeMap;
 use trace_record::Record;
@@ -43,21 +45,21 @@ impl Running for Faults {
         }
     }
 
-    fn from_records(alloc: Global, records: &Records) -> Result<Faults, record_table::OutOfMemory> {
-        let window = window_of(alloc, records)?;
+    fn from_records(room: &mut Room, records: &Records) -> Result<Faults, OutOfMemory> {
+        let window = window_of(room, records)?;
         if window.len() == 0 {
-            return Faults::from_key_list(alloc, records);
+            return Faults::from_key_list(room, records);
         }
         let mut faults = Faults {
             records: 0,
-            triples: TripleCounts::within(alloc, window)?,
+            triples: TripleCounts::within(room, window)?,
         };
-        faults.count_each(records)?;
+        faults.count_each(room, records)?;
         Ok(faults)
     }
 
-    fn add(&mut self, trace: &Record) -> Result<(), record_table::OutOfMemory> {
-        self.raise(key_alone(trace))?;
+    fn add(&mut self, room: &mut Room, trace: &Record) -> Result<(), OutOfMemory> {
+        self.raise(room, key_alone(trace))?;
         self.records += 1;
         Ok(())
     }
@@ -69,10 +71,11 @@ impl Running for Faults {
 
     fn add_beside(
         &mut self,
+        room: &mut Room,
         trace: &Record,
         other: &Record,
-    ) -> Result<(), record_table::OutOfMemory> {
-        self.raise(key_beside(trace, other))?;
+    ) -> Result<(), OutOfMemory> {
+        self.raise(room, key_beside(trace, other))?;
         self.records += 1;
         Ok(())
     }
@@ -85,41 +88,44 @@ impl Running for Faults {
 
 impl Faults {
     // The value that counted these records, their keys all at once.
-    fn from_key_list(alloc: Global, records: &Records) -> Result<Faults, record_table::OutOfMemory>
-        ensures { IfOk result (λ value.
+    fn from_key_list(room: &mut Room, records: &Records) -> Result<Faults, OutOfMemory>
+        ensures same { IfOk result (λ value.
             Same (tally_of_faults value) (tally_of keys_of_faults (map facts_of records.now))) }
+        ensures memory { Rises (IsErr result) room.old room.new }
     {
-        let keys = keys_of(alloc, records)?;
+        let keys = keys_of(room, records)?;
         Ok(Faults {
             records: records.len() as u64,
-            triples: TripleCounts::from_keys(alloc, keys)?,
+            triples: TripleCounts::from_keys(room, keys)?,
         })
     }
 
     // Counts the traces where none is counted.
-    fn count_each(&mut self, records: &Records) -> Result<(), key_counts::OutOfMemory>
+    fn count_each(&mut self, room: &mut Room, records: &Records) -> Result<(), OutOfMemory>
         requires empty { Same (tally_of_faults self.old) empty_tally }
         requires few { length records.now ≤ 2 ^ 33 }
-        ensures { OnOk result
+        ensures same { OnOk result
             (Same (tally_of_faults self.new) (tally_of keys_of_faults (map facts_of records.now))) }
+        ensures memory { Rises (IsErr result) room.old room.new }
     {
         for trace in records.iter() {
-            self.raise(key_alone(&trace))?;
+            self.raise(room, key_alone(&trace))?;
             self.records += 1;
         }
         Ok(())
     }
 
     // Counts the triple once more, where there is one.
-    fn raise(&mut self, key: Option<(i32, i32, i32)>) -> Result<(), key_counts::OutOfMemory>
+    fn raise(&mut self, room: &mut Room, key: Option<(i32, i32, i32)>) -> Result<(), OutOfMemory>
         requires { HasRoom self.old key }
         ensures ok { OnOk result ((k : Key) →
             count_in self.new k ≡ count_in self.old k + times_among key k) }
         ensures err { OnErr result ((k : Key) → count_in self.new k ≡ count_in self.old k) }
         ensures held { ((k : Key) → times_among key k ≤ count_in self.old k) → IsOk result }
         ensures records { self.new.records ≡ self.old.records }
+        ensures memory { Rises (IsErr result) room.old room.new }
     {
-        raise_any(&mut self.triples, key)?;
+        raise_any(room, &mut self.triples, key)?;
         Ok(())
     }
 
@@ -141,24 +147,25 @@ impl Faults {
     /// positions; refused for want of it alone.
     pub fn report(
         &self,
-        alloc: Global,
+        room: &mut Room,
         records: &Records,
         head: &HeadFacts,
     ) -> Result<Vec<Fault>, OutOfMemory>
         requires { length records.now < 2 ^ 32 }
-        ensures { Same (tally_of_faults self.now)
+        ensures faults { Same (tally_of_faults self.now)
             (tally_of keys_of_faults (map facts_of records.now)) →
             IfOk result (λ v. v.items ≡ faults_of head.now (map facts_of records.now)) }
+        ensures memory { Rises (IsErr result) room.old room.new }
     {
         let units = units_of_first(records);
-        let mut firsts = BTreeMap::new(alloc);
-        let mut report = Vec::new(alloc);
-        push_head(&mut report, head, records.len() as u32)?;
+        let mut firsts = BTreeMap::new(room.alloc());
+        let mut report = Vec::new(room.alloc());
+        push_head(room, &mut report, head, records.len() as u32)?;
         let mut position = 0;
         for trace in records.iter() {
             position += 1;
-            let first = self.first_of(&mut firsts, position, key_of(&trace))?;
-            push_trace(&mut report, head, units, first, position, &trace)?;
+            let first = self.first_of(room, &mut firsts, position, key_of(&trace))?;
+            push_trace(room, &mut report, head, units, first, position, &trace)?;
         }
         Ok(report)
     }
@@ -166,6 +173,7 @@ impl Faults {
     // The first position with the key, which is this one where the key is counted once.
     fn first_of(
         &self,
+        room: &mut Room,
         firsts: &mut BTreeMap<(i32, i32, i32), u32>,
         position: u32,
         key: (i32, i32, i32),
@@ -177,9 +185,10 @@ impl Faults {
             get triple_cmp firsts.new q ≡ cond (nat_lt 1 (count_of triple_cmp self.now.triples key)
             && is_eq (triple_cmp key q)) (Some (unwrap_or (get triple_cmp firsts.old key) position))
             (get triple_cmp firsts.old q)) }
+        ensures memory { Rises (IsErr result) room.old room.new }
     {
         if self.triples.count(key) > 1 {
-            return first_place(firsts, key, position);
+            return first_place(room, firsts, key, position);
         }
         Ok(position)
     }

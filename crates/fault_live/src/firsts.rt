@@ -1,6 +1,7 @@
-ghost use Rattle.std.specs.Prelude.{◌≡◌, ◌-◌, ℤ, OnOk, IfOk, Some, unwrap_or, cond, map};
+ghost use Rattle.std.specs.Prelude.{◌≡◌, ◌-◌, ℤ, OnOk, IfOk, Some, unwrap_or, cond, map, IsErr};
 ghost use Rattle.std.specs.Ordering.{is_eq};
 ghost use Rattle.std.specs.BTreeMap.{get};
+ghost use Rattle.room.specs.Refusals.{Rises};
 ghost use Rattle.trace_record.specs.Facts.{facts_of};
 ghost use Rattle.trace_record.specs.Keys.{Key};
 ghost use Rattle.trace_record.specs.Tally.{times};
@@ -8,10 +9,9 @@ ghost use Rattle.window_counts.specs.Places.{triple_cmp};
 ghost use Rattle.fault_live.specs.FaultKeys.{keys_of_faults};
 ghost use Rattle.fault_live.specs.OfKeys.{times_among};
 
-use crate::OutOfMemory;
 use key_counts::beside;
 use record_table::Records;
-use std::alloc::{AllocError, Global};
+use room::{OutOfMemory, Room};
 use std::collections::BTreeMap;
 use trace_record::Record;
 use window_counts::{Extent, OffsetExtent, OffsetRectangle, Window};
@@ -41,13 +41,15 @@ pub(crate) fn key_beside(trace: &Record, other: &Record) -> Option<(i32, i32, i3
 // Places for the keys of these traces: the cells at one offset, where enough traces share it, or
 // else each at the offset of its last trace; none where they lie apart. Takes memory for the
 // offsets of cells.
-pub(crate) fn window_of(alloc: Global, records: &Records) -> Result<OffsetRectangle, AllocError> {
+pub(crate) fn window_of(room: &mut Room, records: &Records) -> Result<OffsetRectangle, OutOfMemory>
+    ensures memory { Rises (IsErr result) room.old room.new }
+{
     let extent = extent_of(records);
     let window = OffsetRectangle::over(&extent, records.len());
     if window.len() > 0 {
         return Ok(window);
     }
-    let window = OffsetRectangle::by_cell(alloc, &extent, records.len())?;
+    let window = OffsetRectangle::by_cell(room, &extent, records.len())?;
     if window.len() == 0 {
         return Ok(window);
     }
@@ -72,18 +74,24 @@ fn extent_of(records: &Records) -> OffsetExtent {
 }
 
 // The keys of these traces, in their order.
-pub(crate) fn keys_of(alloc: Global, records: &Records) -> Result<Vec<(i32, i32, i32)>, AllocError>
-    ensures { IfOk result (λ keys. keys.items ≡
+pub(crate) fn keys_of(
+    room: &mut Room,
+    records: &Records,
+) -> Result<Vec<(i32, i32, i32)>, OutOfMemory>
+    ensures keys { IfOk result (λ keys. keys.items ≡
         map (λ r. (r.inline, r.crossline, r.offset)) records.now) }
+    ensures memory { Rises (IsErr result) room.old room.new }
 {
-    records
+    let made = records
         .iter()
         .map(|r| (r.inline, r.crossline, r.offset))
-        .collect(alloc)
+        .collect(room.alloc());
+    room.told(made)
 }
 
 // The position that the key has, or this one, which it then gets.
 pub(crate) fn first_place(
+    room: &mut Room,
     firsts: &mut BTreeMap<(i32, i32, i32), u32>,
     key: (i32, i32, i32),
     position: u32,
@@ -92,10 +100,11 @@ pub(crate) fn first_place(
     ensures places { OnOk result ((q : ℤ × ℤ × ℤ) →
         get triple_cmp firsts.new q ≡ cond (is_eq (triple_cmp key q))
         (Some (unwrap_or (get triple_cmp firsts.old key) position)) (get triple_cmp firsts.old q)) }
+    ensures memory { Rises (IsErr result) room.old room.new }
 {
     if let Some(first) = firsts.get(&key) {
         return Ok(*first);
     }
-    firsts.insert(key, position)?;
+    room.told_back(firsts.insert(key, position))?;
     Ok(position)
 }

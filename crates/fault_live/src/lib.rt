@@ -1,8 +1,8 @@
 //! Faults of a volume's headers: what does not agree with the file, with the first trace or with an
 //! earlier trace. Positions of traces count from 1. A `Faults` runs with the traces of a volume;
 //! `report` makes the list of faults from it and the records. `add`, `from_records` and `report`
-//! may take memory and answer want of it; the other calls take none. The call that is named for a
-//! law does nothing: its contract is the law.
+//! may take memory, and answer want of it only where a growth was refused in that call; the other
+//! calls take none. The call that is named for a law does nothing: its contract is the law.
 #![tactic(auto)]
 
 mod checks;
@@ -11,11 +11,10 @@ mod faults;
 mod firsts;
 mod head_facts;
 mod laws;
-mod out_of_memory;
 mod report;
 
 pub use crate::fault::Fault;
 pub use crate::faults::Faults;
 pub use crate::head_facts::HeadFacts;
 pub use crate::laws::once_is_not_repeated;
-pub use crate::out_of_memory::OutOfMemory;
+pub use room::OutOfMemory;

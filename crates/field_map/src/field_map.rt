@@ -1,4 +1,5 @@
-ghost use Rattle.std.specs.Prelude.{◌≡◌, ◌⊎◌, true, Some, None, IfOk, IfErr, OnOk, OnErr, MatchResult};
+ghost use Rattle.std.specs.Prelude.{◌≡◌, ◌⊎◌, true, Some, None, IsErr, IsErrOf, IfOk, IfErr, OnOk, OnErr, MatchResult};
+ghost use Rattle.room.specs.Refusals.{Rises};
 ghost use Rattle.field_map.specs.Pairs.{shown, bound, unbound, place_of, is_bound};
 ghost use Rattle.field_map.specs.Binding.{geometry_at_load, HasGeometry, is_geometry, is_geometry_place, bind_fault, unbind_fault, further_names, is_full};
 ghost use Rattle.field_map.specs.SixPlaces.{AreSixPlaces};
@@ -8,11 +9,10 @@ use crate::entries::Entries;
 use crate::geometry::Geometry;
 use crate::map_fault::MapFault;
 use crate::names::{signed_at, standard};
-use crate::out_of_memory::OutOfMemory;
 use crate::place::Place;
 use crate::rules::{is_bad_kind, is_geometry, is_name, is_outside};
 use indexmap::IndexMap;
-use std::alloc::Global;
+use room::{OutOfMemory, Room};
 use std::marker::Model;
 
 /// The names that are bound to places in trace headers, in the order of their first binding: the
@@ -41,17 +41,18 @@ impl FieldMap {
     /// The map of a file that was just loaded, whose traces have at most so many header extensions:
     /// the six geometry names at their standard places. Takes memory, and is refused for want of it
     /// alone.
-    pub fn standard(alloc: Global, extensions: u8) -> Result<FieldMap, OutOfMemory>
+    pub fn standard(room: &mut Room, extensions: u8) -> Result<FieldMap, OutOfMemory>
         ensures extensions { IfOk result (λ m. m.extensions ≡ extensions) }
         ensures pairs { IfOk result (λ m. m.pairs ≡ geometry_at_load) }
+        ensures memory { Rises (IsErr result) room.old room.new }
     {
-        let mut map = IndexMap::new(alloc);
-        put(&mut map, alloc, "inline", signed_at(189, 4))?;
-        put(&mut map, alloc, "crossline", signed_at(193, 4))?;
-        put(&mut map, alloc, "offset", signed_at(37, 4))?;
-        put(&mut map, alloc, "x", signed_at(181, 4))?;
-        put(&mut map, alloc, "y", signed_at(185, 4))?;
-        put(&mut map, alloc, "scalar", signed_at(71, 2))?;
+        let mut map = IndexMap::new(room.alloc());
+        put(&mut map, room, "inline", signed_at(189, 4))?;
+        put(&mut map, room, "crossline", signed_at(193, 4))?;
+        put(&mut map, room, "offset", signed_at(37, 4))?;
+        put(&mut map, room, "x", signed_at(181, 4))?;
+        put(&mut map, room, "y", signed_at(185, 4))?;
+        put(&mut map, room, "scalar", signed_at(71, 2))?;
         let geometry = six_places(&map, extensions);
         Ok(FieldMap {
             extensions,
@@ -115,7 +116,7 @@ impl FieldMap {
     /// where the place goes past its header or stands in an extension that the name may not stand
     /// in, M03 for a kind that no number or no geometry name has, M04 for a new name where 64
     /// further names are bound, M07 for a standard name; then where a growth was refused.
-    pub fn bind(&mut self, alloc: Global, name: &str, place: Place) -> Result<(), MapFault>
+    pub fn bind(&mut self, room: &mut Room, name: &str, place: Place) -> Result<(), MapFault>
         ensures ok { OnOk result
             ((bind_fault self.old.extensions self.old.pairs name.now place ≡ None)
             × (self.new.pairs ≡ bound self.old.pairs name.now place)) }
@@ -125,11 +126,12 @@ impl FieldMap {
             ⊎ ((bind_fault self.old.extensions self.old.pairs name.now place ≡ None) ×
             (fault ≡ no_memory))) }
         ensures err { OnErr result (self.new ≡ self.old) }
+        ensures memory { Rises (IsErrOf result MapFault.OutOfMemory) room.old room.new }
     {
         match self.binding_refusal(name, place) {
             Some(fault) => Err(fault),
             None => {
-                put(&mut self.map, alloc, name, place)?;
+                put(&mut self.map, room, name, place)?;
                 self.geometry = six_places(&self.map, self.extensions);
                 Ok(())
             }
@@ -227,16 +229,19 @@ fn held_place(map: &IndexMap<String, Place>, name: &str) -> Place
 // Binds the name, whatever it is.
 fn put(
     map: &mut IndexMap<String, Place>,
-    alloc: Global,
+    room: &mut Room,
     name: &str,
     place: Place,
 ) -> Result<(), OutOfMemory>
     ensures ok { OnOk result (shown map.new.entries ≡ bound (shown map.old.entries) name.now
         place) }
     ensures err { OnErr result (shown map.new.entries ≡ shown map.old.entries) }
+    ensures memory { Rises (IsErr result) room.old room.new }
 {
-    let key = String::from_str(alloc, name)?;
-    map.insert(key, place)?;
+    let made = String::from_str(room.alloc(), name);
+    let key = room.told(made)?;
+    let inserted = map.insert(key, place);
+    room.told_back(inserted)?;
     Ok(())
 }
 

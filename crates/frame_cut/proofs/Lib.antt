@@ -9,3 +9,4 @@ pub mod OneCutLemmas
 pub mod CutExampleLemmas
 pub mod ExtensionLemmas
 pub mod FrontLemmas
+pub mod MemoryLemmas

@@ -1,6 +1,7 @@
 // The walk over the traces of a file: where each one lies, or why one is refused.
-ghost use Rattle.std.specs.Prelude.{◌≡◌, ◌+◌, ◌*◌, ◌<◌, ◌≤◌, ◌&&◌, ◌↔◌, ◌⊎◌, ℕ, List, [], true, length, Some, None, IfOk, IfErr, IsSome, IfSome};
+ghost use Rattle.std.specs.Prelude.{◌≡◌, ◌+◌, ◌*◌, ◌<◌, ◌≤◌, ◌&&◌, ◌↔◌, ◌⊎◌, ℕ, List, [], true, length, Some, None, IfOk, IfErr, IsErr, IsErrOf, IsSome, IfSome};
 ghost use Rattle.std.specs.Option.{ForSome};
+ghost use Rattle.room.specs.Refusals.{Rises};
 ghost use Rattle.frame_cut.specs.declared.extent.Extent.{Extent};
 ghost use Rattle.frame_cut.specs.Frames.{trace_length as trace_length_of, front_length as front_length_of};
 ghost use Rattle.frame_cut.specs.declared.file_head.Head.{Head};
@@ -15,12 +16,12 @@ use crate::frames::{front_length, length_with, trace_length};
 use crate::limits::Limits;
 use crate::load_fault::LoadFault;
 use crate::reading::Reading;
-use std::alloc::{AllocError, Global};
+use room::{OutOfMemory, Room};
 use text_block::TEXT_BLOCK_BYTES;
 
 // Where the traces of a file with this head lie, and where the last of them ends.
 pub(crate) fn walk(
-    alloc: Global,
+    room: &mut Room,
     head: &Head,
     reading: Reading,
     limits: Limits,
@@ -32,11 +33,12 @@ pub(crate) fn walk(
     ensures stops { IfErr result (λ fault. (fault ≡ LoadFault.OutOfMemory)
         ⊎ ((extents : List Extent) × (at : ℕ) ×
         StopsAt bytes.now reading head.now limits extents at fault)) }
+    ensures memory { Rises (IsErrOf result LoadFault.OutOfMemory) room.old room.new }
 {
     let end = bytes.len() - TEXT_BLOCK_BYTES * head.trailer as usize;
     let mut at = head.traces_at as usize;
     let fixed = fixed_length(head);
-    let Ok(mut extents) = empty_list(alloc, fixed, (end - at) as u64, limits) else {
+    let Ok(mut extents) = empty_list(room, fixed, (end - at) as u64, limits) else {
         return Err(LoadFault::OutOfMemory);
     };
     'traces: while at < end {
@@ -51,9 +53,9 @@ pub(crate) fn walk(
             start: at as u64,
             length,
         };
-        if extents.push(extent).is_err() {
+        let Ok(()) = room.told_back(extents.push(extent)) else {
             return Err(LoadFault::OutOfMemory);
-        }
+        };
         at += length as usize;
     }
     Ok((extents, at))
@@ -82,22 +84,23 @@ fn fixed_length(head: &Head) -> Option<u64>
     }
 }
 
-// An empty list, with room for all traces where their number is known from their length.
+// An empty list, with memory for all traces where their number is known from their length.
 fn empty_list(
-    alloc: Global,
+    room: &mut Room,
     fixed: Option<u64>,
     left: u64,
     limits: Limits,
-) -> Result<Vec<Extent>, AllocError>
+) -> Result<Vec<Extent>, OutOfMemory>
     requires { ForSome fixed (λ length. 0 < length) }
-    ensures { IfOk result (λ extents. extents.items ≡ []) }
+    ensures empty { IfOk result (λ extents. extents.items ≡ []) }
+    ensures memory { Rises (IsErr result) room.old room.new }
 {
     match fixed {
-        Some(length) => Vec::with_capacity(
-            alloc,
-            (left / length).min(u64::from(limits.traces())) as usize,
-        ),
-        None => Ok(Vec::new(alloc)),
+        Some(length) => {
+            let traces = (left / length).min(u64::from(limits.traces())) as usize;
+            room.told(Vec::with_capacity(room.alloc(), traces))
+        }
+        None => Ok(Vec::new(room.alloc())),
     }
 }
 

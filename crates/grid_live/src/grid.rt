@@ -1,11 +1,14 @@
+ghost use Rattle.std.specs.Prelude.{IsErr};
+ghost use Rattle.room.specs.Refusals.{Rises};
 ghost use Rattle.grid_live.specs.Fitting.{CellsFit};
 
 use crate::key_lists::{cell_keys, crossline_keys, extent_of, inline_keys};
 use crate::keys::Keys;
 use crate::lists::histogram_of_cells;
-use crate::{Cell, FoldCount, Line, OutOfMemory};
+use crate::{Cell, FoldCount, Line};
 use key_counts::{lower_any, lower_both, raise_any, raise_both};
 use record_table::{Records, Running};
+use room::{OutOfMemory, Room};
 use std::alloc::Global;
 use trace_record::Record;
 use window_counts::{CellCounts, Interval, LineCounts, Rectangle, Window};
@@ -48,51 +51,61 @@ impl Grid {
     /// The cells that have traces, rising by inline and then by crossline. Takes memory for the
     /// list and, where cells lie outside those of the load, for one more; refused only where that
     /// is.
-    pub fn cells(&self, alloc: Global) -> Result<Vec<Cell>, OutOfMemory>
-        ensures { IfOk result (λ list. ShowsCells (tally_of_grid self.now) list.items) }
+    pub fn cells(&self, room: &mut Room) -> Result<Vec<Cell>, OutOfMemory>
+        ensures cells { IfOk result (λ list. ShowsCells (tally_of_grid self.now) list.items) }
+        ensures memory { Rises (IsErr result) room.old room.new }
     {
-        let list = self.cells.list(alloc)?;
+        let list = self.cells.list(room)?;
         Ok(list)
     }
 
     /// The inlines that have traces, rising, each with its number of traces. Takes memory for the
     /// list and, where inlines lie outside those of the load, for one more; refused only where that
     /// is.
-    pub fn inlines(&self, alloc: Global) -> Result<Vec<Line>, OutOfMemory>
-        ensures { IfOk result (λ list. ShowsInlines (tally_of_grid self.now) list.items) }
+    pub fn inlines(&self, room: &mut Room) -> Result<Vec<Line>, OutOfMemory>
+        ensures inlines { IfOk result (λ list. ShowsInlines (tally_of_grid self.now) list.items) }
+        ensures memory { Rises (IsErr result) room.old room.new }
     {
-        let list = self.inlines.list(alloc)?;
+        let list = self.inlines.list(room)?;
         Ok(list)
     }
 
     /// The crosslines that have traces, rising, each with its number of traces. Takes memory for
     /// the list and, where crosslines lie outside those of the load, for one more; refused only
     /// where that is.
-    pub fn crosslines(&self, alloc: Global) -> Result<Vec<Line>, OutOfMemory>
-        ensures { IfOk result (λ list. ShowsCrosslines (tally_of_grid self.now) list.items) }
+    pub fn crosslines(&self, room: &mut Room) -> Result<Vec<Line>, OutOfMemory>
+        ensures crosslines { IfOk result (λ list. ShowsCrosslines (tally_of_grid self.now)
+            list.items) }
+        ensures memory { Rises (IsErr result) room.old room.new }
     {
-        let list = self.crosslines.list(alloc)?;
+        let list = self.crosslines.list(room)?;
         Ok(list)
     }
 
     /// The folds of the cells that have traces, rising, each with its number of cells. Takes
     /// memory for the list and, while it is made, for the cells and the counts of their folds, and
     /// is refused only where one of these is.
-    pub fn histogram(&self, alloc: Global) -> Result<Vec<FoldCount>, OutOfMemory>
-        ensures { IfOk result (λ list. ShowsHistogram (tally_of_grid self.now) list.items) }
+    pub fn histogram(&self, room: &mut Room) -> Result<Vec<FoldCount>, OutOfMemory>
+        ensures histogram { IfOk result (λ list. ShowsHistogram (tally_of_grid self.now)
+            list.items) }
+        ensures memory { Rises (IsErr result) room.old room.new }
     {
-        let cells = self.cells(alloc)?;
-        histogram_of_cells(alloc, &cells)
+        let cells = self.cells(room)?;
+        histogram_of_cells(room, &cells)
     }
 
     // The grid of these records, each kind of key counted all at once.
-    fn from_key_lists(alloc: Global, records: &Records) -> Result<Grid, record_table::OutOfMemory>
-        ensures { IfOk result (λ grid.
+    fn from_key_lists(room: &mut Room, records: &Records) -> Result<Grid, OutOfMemory>
+        ensures same { IfOk result (λ grid.
             Same (tally_of_grid grid) (tally_of keys_of_grid (map facts_of records.now))) }
+        ensures memory { Rises (IsErr result) room.old room.new }
     {
-        let cells = CellCounts::from_keys(alloc, cell_keys(alloc, records)?)?;
-        let inlines = LineCounts::from_keys(alloc, inline_keys(alloc, records)?)?;
-        let crosslines = LineCounts::from_keys(alloc, crossline_keys(alloc, records)?)?;
+        let keys = cell_keys(room, records)?;
+        let cells = CellCounts::from_keys(room, keys)?;
+        let keys = inline_keys(room, records)?;
+        let inlines = LineCounts::from_keys(room, keys)?;
+        let keys = crossline_keys(room, records)?;
+        let crosslines = LineCounts::from_keys(room, keys)?;
         Ok(Grid {
             records: records.len() as u64,
             cells,
@@ -102,35 +115,38 @@ impl Grid {
     }
 
     // Counts the traces where none is counted.
-    fn count_each(&mut self, records: &Records) -> Result<(), key_counts::OutOfMemory>
+    fn count_each(&mut self, room: &mut Room, records: &Records) -> Result<(), OutOfMemory>
         requires empty { Same (tally_of_grid self.old) empty_tally }
         requires few { length records.now ≤ 2 ^ 33 }
-        ensures { OnOk result
+        ensures same { OnOk result
             (Same (tally_of_grid self.new) (tally_of keys_of_grid (map facts_of records.now))) }
+        ensures memory { Rises (IsErr result) room.old room.new }
     {
         for trace in records.iter() {
-            self.raise(&Keys::of(&trace))?;
+            self.raise(room, &Keys::of(&trace))?;
             self.records += 1;
         }
         Ok(())
     }
 
     // Counts the keys once more, or none of them where a growth is refused.
-    fn raise(&mut self, keys: &Keys) -> Result<(), key_counts::OutOfMemory>
+    fn raise(&mut self, room: &mut Room, keys: &Keys) -> Result<(), OutOfMemory>
         requires { HasRoom self.old keys.now }
         ensures ok { OnOk result ((k : Key) →
             count_in self.new k ≡ count_in self.old k + times_among keys.now k) }
         ensures err { OnErr result ((k : Key) → count_in self.new k ≡ count_in self.old k) }
         ensures held { ((k : Key) → times_among keys.now k ≤ count_in self.old k) → IsOk result }
         ensures records { self.new.records ≡ self.old.records }
+        ensures memory { Rises (IsErr result) room.old room.new }
     {
         raise_both(
+            room,
             &mut self.inlines,
             keys.inline,
             &mut self.crosslines,
             keys.crossline,
         )?;
-        if let Err(error) = raise_any(&mut self.cells, keys.cell) {
+        if let Err(error) = raise_any(room, &mut self.cells, keys.cell) {
             lower_both(
                 &mut self.inlines,
                 keys.inline,
@@ -176,27 +192,27 @@ impl Running for Grid {
         }
     }
 
-    fn from_records(alloc: Global, records: &Records) -> Result<Grid, record_table::OutOfMemory> {
+    fn from_records(room: &mut Room, records: &Records) -> Result<Grid, OutOfMemory> {
         let count = records.len();
         let extent = extent_of(records);
         let window = Rectangle::over(&extent, count);
         if window.len() == 0 {
-            return Grid::from_key_lists(alloc, records);
+            return Grid::from_key_lists(room, records);
         }
-        let inlines = LineCounts::within(alloc, Interval::over(&extent.inlines(), count))?;
-        let crosslines = LineCounts::within(alloc, Interval::over(&extent.crosslines(), count))?;
+        let inlines = LineCounts::within(room, Interval::over(&extent.inlines(), count))?;
+        let crosslines = LineCounts::within(room, Interval::over(&extent.crosslines(), count))?;
         let mut grid = Grid {
             records: 0,
-            cells: CellCounts::within(alloc, window)?,
+            cells: CellCounts::within(room, window)?,
             inlines,
             crosslines,
         };
-        grid.count_each(records)?;
+        grid.count_each(room, records)?;
         Ok(grid)
     }
 
-    fn add(&mut self, trace: &Record) -> Result<(), record_table::OutOfMemory> {
-        self.raise(&Keys::of(trace))?;
+    fn add(&mut self, room: &mut Room, trace: &Record) -> Result<(), OutOfMemory> {
+        self.raise(room, &Keys::of(trace))?;
         self.records += 1;
         Ok(())
     }
@@ -208,10 +224,11 @@ impl Running for Grid {
 
     fn add_beside(
         &mut self,
+        room: &mut Room,
         trace: &Record,
         other: &Record,
-    ) -> Result<(), record_table::OutOfMemory> {
-        self.raise(&Keys::beside(trace, other))?;
+    ) -> Result<(), OutOfMemory> {
+        self.raise(room, &Keys::beside(trace, other))?;
         self.records += 1;
         Ok(())
     }

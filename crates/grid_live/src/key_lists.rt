@@ -1,33 +1,40 @@
 // The keys of records that a grid counts, in their order, and how far they reach.
-ghost use Rattle.std.specs.Prelude.{◌≡◌, IfOk, All, FitsSigned, map};
+ghost use Rattle.std.specs.Prelude.{◌≡◌, IfOk, All, FitsSigned, map, IsErr};
 ghost use Rattle.std.specs.Int.{w32};
+ghost use Rattle.room.specs.Refusals.{Rises};
 
 use record_table::Records;
-use std::alloc::{AllocError, Global};
+use room::{OutOfMemory, Room};
 use window_counts::{Extent, RectangleExtent};
 
-pub(crate) fn cell_keys(alloc: Global, records: &Records) -> Result<Vec<(i32, i32)>, AllocError>
+pub(crate) fn cell_keys(room: &mut Room, records: &Records) -> Result<Vec<(i32, i32)>, OutOfMemory>
     ensures keys { IfOk result (λ keys. keys.items ≡
         map (λ r. (r.inline, r.crossline)) records.now) }
     ensures fit { IfOk result (λ keys. All (λ k. FitsSigned w32 k.0 ×
         FitsSigned w32 k.1) keys.items) }
+    ensures memory { Rises (IsErr result) room.old room.new }
 {
-    records
+    let made = records
         .iter()
         .map(|r| (r.inline, r.crossline))
-        .collect(alloc)
+        .collect(room.alloc());
+    room.told(made)
 }
 
-pub(crate) fn inline_keys(alloc: Global, records: &Records) -> Result<Vec<i32>, AllocError>
-    ensures { IfOk result (λ keys. keys.items ≡ map (λ r. r.inline) records.now) }
+pub(crate) fn inline_keys(room: &mut Room, records: &Records) -> Result<Vec<i32>, OutOfMemory>
+    ensures keys { IfOk result (λ keys. keys.items ≡ map (λ r. r.inline) records.now) }
+    ensures memory { Rises (IsErr result) room.old room.new }
 {
-    records.iter().map(|r| r.inline).collect(alloc)
+    let made = records.iter().map(|r| r.inline).collect(room.alloc());
+    room.told(made)
 }
 
-pub(crate) fn crossline_keys(alloc: Global, records: &Records) -> Result<Vec<i32>, AllocError>
-    ensures { IfOk result (λ keys. keys.items ≡ map (λ r. r.crossline) records.now) }
+pub(crate) fn crossline_keys(room: &mut Room, records: &Records) -> Result<Vec<i32>, OutOfMemory>
+    ensures keys { IfOk result (λ keys. keys.items ≡ map (λ r. r.crossline) records.now) }
+    ensures memory { Rises (IsErr result) room.old room.new }
 {
-    records.iter().map(|r| r.crossline).collect(alloc)
+    let made = records.iter().map(|r| r.crossline).collect(room.alloc());
+    room.told(made)
 }
 
 // The least and the greatest inline and crossline.

@@ -5,7 +5,8 @@
 //! `Grid::add` and `add_beside` take memory for a cell, inline or crossline that had no trace and
 //! lies outside those of the load, `from_records` for all that it counts, and each call that
 //! answers a list takes memory for it. Where a growth is refused they answer want of memory, and
-//! the grid is as it was. No other call takes memory.
+//! the grid is as it was; each gives up only where a growth was refused in that call. No other call
+//! takes memory.
 #![tactic(auto)]
 
 mod cell;
@@ -16,7 +17,6 @@ mod keys;
 mod laws;
 mod line;
 mod lists;
-mod out_of_memory;
 
 pub use crate::cell::Cell;
 pub use crate::fold_count::FoldCount;
@@ -27,4 +27,4 @@ pub use crate::laws::{
     histogram_is_shown, inlines_are_shown,
 };
 pub use crate::line::Line;
-pub use crate::out_of_memory::OutOfMemory;
+pub use room::OutOfMemory;

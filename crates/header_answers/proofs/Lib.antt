@@ -2,3 +2,4 @@ pub mod FoundLemmas
 mod NameLemmas
 mod SeenLemmas
 mod MainLemmas
+pub mod RangeLemmas

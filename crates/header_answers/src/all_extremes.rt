@@ -1,5 +1,6 @@
 // The extremes of all named header fields over many traces.
-ghost use Rattle.std.specs.Prelude.{◌≡◌, ◌+◌, ◌-◌, ◌<◌, ◌≤◌, ◌++◌, ◌⊎◌, [], IsTrue, IfOk, IfErr, OnOk, length, map, option_to_list};
+ghost use Rattle.std.specs.Prelude.{◌≡◌, ◌+◌, ◌-◌, ◌<◌, ◌≤◌, ◌++◌, ◌⊎◌, [], IsTrue, IfOk, IfErr, OnOk, length, map, option_to_list, IsErrOf};
+ghost use Rattle.room.specs.Refusals.{Rises};
 ghost use Rattle.frame_cut.specs.Traces.{count_of, is_trace, trace_at};
 ghost use Rattle.trace_view.specs.Shown.{bytes_of, head_of};
 ghost use Rattle.trace_view.specs.Values.{main_header};
@@ -16,7 +17,7 @@ use crate::seen::Seen;
 use bench_rules::{AskFault, Extremes, Items, Text};
 use edit_overlay::{Overlay, ReadFault};
 use field_map::{Place, TRACE_HEADER_BYTES};
-use std::alloc::Global;
+use room::Room;
 use trace_record::PackedRecord;
 use trace_view::TraceView;
 
@@ -24,7 +25,7 @@ use trace_view::TraceView;
 /// the first and the last of those of the traces that have its place. Looks at each of the traces
 /// once. Refused: E11 alone. On disk also where a trace could not be read (E14, E15).
 pub fn extremes(
-    alloc: Global,
+    room: &mut Room,
     overlay: &mut Overlay<PackedRecord>,
     a: u32,
     b: u32,
@@ -38,12 +39,13 @@ pub fn extremes(
     ensures err { IfErr result (λ fault. IsReadFault overlay.old.loaded.on_disk fault
         ⊎ (fault ≡ no_memory)) }
     ensures seen { IsSeen overlay.old overlay.new (b + 1 - a) }
+    ensures memory { Rises (IsErrOf result AskFault.OutOfMemory) room.old room.new }
 {
-    let mut seen = nothing_seen(alloc, names.as_slice())?;
+    let mut seen = nothing_seen(room, names.as_slice())?;
     for k in 0..b - a + 1 {
         see_trace(overlay, a + k, names.as_slice(), &mut seen)?;
     }
-    shown(alloc, names, seen.as_slice())
+    shown(room, names, seen.as_slice())
 }
 
 /// Each of the names whose numbers in these traces, which rise, are not all 0, with the least, the
@@ -51,7 +53,7 @@ pub fn extremes(
 /// the traces once at most. Refused: E11 alone. On disk also where a trace could not be read (E14,
 /// E15).
 pub fn extremes_among(
-    alloc: Global,
+    room: &mut Room,
     overlay: &mut Overlay<PackedRecord>,
     traces: &[u32],
     names: Vec<(Text, Place)>,
@@ -62,25 +64,27 @@ pub fn extremes_among(
     ensures err { IfErr result (λ fault. (fault ≡ no_memory) ⊎
         (IsReadFault overlay.old.loaded.on_disk fault × (0 < length traces.now))) }
     ensures seen { IsSeen overlay.old overlay.new (length traces.now) }
+    ensures memory { Rises (IsErrOf result AskFault.OutOfMemory) room.old room.new }
 {
-    let mut seen = nothing_seen(alloc, names.as_slice())?;
+    let mut seen = nothing_seen(room, names.as_slice())?;
     for p in traces {
         see_trace(overlay, *p, names.as_slice(), &mut seen)?;
     }
-    shown(alloc, names, seen.as_slice())
+    shown(room, names, seen.as_slice())
 }
 
 // Nothing seen of each of the names.
-fn nothing_seen(alloc: Global, names: &[(Text, Place)]) -> Result<Vec<Seen>, AskFault>
+fn nothing_seen(room: &mut Room, names: &[(Text, Place)]) -> Result<Vec<Seen>, AskFault>
     ensures ok { IfOk result (λ seen. seen.items ≡ map (λ _. seen_of []) names.now) }
     ensures err { IfErr result (λ fault. fault ≡ no_memory) }
+    ensures memory { Rises (IsErrOf result AskFault.OutOfMemory) room.old room.new }
 {
-    let mut seen = Vec::with_capacity(alloc, names.len())?;
+    let mut seen = room.told(Vec::with_capacity(room.alloc(), names.len()))?;
     for _each in names {
-        seen.push(Seen {
+        room.told_back(seen.push(Seen {
             extremes: None,
             some: false,
-        })?;
+        }))?;
     }
     Ok(seen)
 }
@@ -139,18 +143,19 @@ fn see_each(trace: &TraceView<'_>, main: &[u8], names: &[(Text, Place)], seen: &
 
 // The names whose numbers are not all 0, with what was seen of each.
 fn shown(
-    alloc: Global,
+    room: &mut Room,
     names: Vec<(Text, Place)>,
     seen: &[Seen],
 ) -> Result<Items<(Text, Extremes)>, AskFault>
     requires { length seen.now ≡ length names.items }
     ensures ok { IfOk result (λ found. found ≡ shown_of names.items seen.now) }
     ensures err { IfErr result (λ fault. fault ≡ no_memory) }
+    ensures memory { Rises (IsErrOf result AskFault.OutOfMemory) room.old room.new }
 {
-    let mut found = Vec::new(alloc);
+    let mut found = Vec::new(room.alloc());
     let mut at = 0usize;
     for (name, _place) in names {
-        keep(&mut found, name, seen[at].shown())?;
+        keep(room, &mut found, name, seen[at].shown())?;
         at += 1;
     }
     Ok(Items::new(found))
@@ -158,6 +163,7 @@ fn shown(
 
 // Puts the name with its extremes behind others, where it has any.
 fn keep(
+    room: &mut Room,
     found: &mut Vec<(Text, Extremes)>,
     name: Text,
     extremes: Option<Extremes>,
@@ -165,9 +171,10 @@ fn keep(
     ensures ok { OnOk result (found.new.items ≡ found.old.items
         ++ option_to_list (with_name name extremes)) }
     ensures err { IfErr result (λ fault. fault ≡ no_memory) }
+    ensures memory { Rises (IsErrOf result AskFault.OutOfMemory) room.old room.new }
 {
     if let Some(extremes) = extremes {
-        found.push((name, extremes))?;
+        room.told_back(found.push((name, extremes)))?;
     }
     Ok(())
 }

@@ -1,5 +1,6 @@
 // The answers to queries for named header fields.
-ghost use Rattle.std.specs.Prelude.{◌≡◌, IsTrue};
+ghost use Rattle.std.specs.Prelude.{◌≡◌, IsTrue, IsErrOf};
+ghost use Rattle.room.specs.Refusals.{Rises};
 ghost use Rattle.edit_overlay.specs.CountedVolume.{IsSeen};
 ghost use Rattle.bench_rules.specs.declared.query.Query.TheVariants as queries;
 ghost use Rattle.bench_rules.specs.Answer.{IsReply};
@@ -14,13 +15,13 @@ use crate::names::named_places;
 use bench_rules::{Answer, AskFault, Field, has_trace, place_in_trace, range_fault};
 use edit_overlay::Overlay;
 use field_map::FieldMap;
-use std::alloc::Global;
+use room::Room;
 use trace_record::PackedRecord;
 
 /// All named header fields of trace p. One look at most. Takes memory. Refused: E01, else E11
 /// alone. On disk also where the trace could not be read (E14, E15).
 pub fn header_answer(
-    alloc: Global,
+    room: &mut Room,
     overlay: &mut Overlay<PackedRecord>,
     map: &FieldMap,
     p: u32,
@@ -29,12 +30,13 @@ pub fn header_answer(
         s.on_disk ≡ overlay.old.loaded.on_disk → IsTrue overlay.new.agreed →
         IsReply s (queries.Header p) result }
     ensures seen { IsSeen overlay.old overlay.new (trace_looks overlay.old.volume p 1) }
+    ensures memory { Rises (IsErrOf result AskFault.OutOfMemory) room.old room.new }
 {
     if !has_trace(overlay, p) {
         return Err(AskFault::NoTrace(p, overlay.count()));
     }
-    let names = named_places(alloc, map)?;
-    let numbers = header(alloc, overlay, p, names)?;
+    let names = named_places(room, map)?;
+    let numbers = header(room, overlay, p, names)?;
     Ok(Answer::Header(numbers))
 }
 
@@ -42,7 +44,7 @@ pub fn header_answer(
 /// most, and at none where a or b is refused or the field has no place. Takes memory. Refused: E01,
 /// E02, E03, else E11 alone. On disk also where a trace could not be read (E14, E15).
 pub fn found_answer(
-    alloc: Global,
+    room: &mut Room,
     overlay: &mut Overlay<PackedRecord>,
     map: &FieldMap,
     a: u32,
@@ -57,6 +59,7 @@ pub fn found_answer(
     ensures seen { IsSeen overlay.old overlay.new
         (looks_at (place_of_field map.now.pairs field.now)
         (range_looks overlay.old.volume a b)) }
+    ensures memory { Rises (IsErrOf result AskFault.OutOfMemory) room.old room.new }
 {
     if let Some(fault) = range_fault(overlay, a, b) {
         return Err(fault);
@@ -64,7 +67,7 @@ pub fn found_answer(
     let Some(place) = place_in_trace(map, field) else {
         return Err(AskFault::NoField);
     };
-    let found = find(alloc, overlay, a, b, place, low, high)?;
+    let found = find(room, overlay, a, b, place, low, high)?;
     Ok(Answer::Found(found))
 }
 
@@ -72,7 +75,7 @@ pub fn found_answer(
 /// and at none where a or b is refused. Takes memory. Refused: E01, else E11 alone. On disk also
 /// where a trace could not be read (E14, E15).
 pub fn extremes_answer(
-    alloc: Global,
+    room: &mut Room,
     overlay: &mut Overlay<PackedRecord>,
     map: &FieldMap,
     a: u32,
@@ -83,11 +86,12 @@ pub fn extremes_answer(
         IsReply s (queries.Extremes a b) result }
     ensures seen { IsSeen overlay.old overlay.new
         (range_looks overlay.old.volume a b) }
+    ensures memory { Rises (IsErrOf result AskFault.OutOfMemory) room.old room.new }
 {
     if let Some(fault) = range_fault(overlay, a, b) {
         return Err(fault);
     }
-    let names = named_places(alloc, map)?;
-    let found = extremes(alloc, overlay, a, b, names)?;
+    let names = named_places(room, map)?;
+    let found = extremes(room, overlay, a, b, names)?;
     Ok(Answer::Extremes(found))
 }

@@ -1,5 +1,6 @@
 // The traces whose header field has a number between two bounds.
-ghost use Rattle.std.specs.Prelude.{◌≡◌, ◌+◌, ◌-◌, ◌<◌, ◌≤◌, [], ◌∷◌, ◌++◌, ◌⊎◌, None, Some, IsTrue, IfOk, IfErr, length, if◌then◌else◌};
+ghost use Rattle.std.specs.Prelude.{◌≡◌, ◌+◌, ◌-◌, ◌<◌, ◌≤◌, [], ◌∷◌, ◌++◌, ◌⊎◌, None, Some, IsTrue, IfOk, IfErr, length, if◌then◌else◌, IsErrOf, IsFalse};
+ghost use Rattle.room.specs.Refusals.{Rises};
 ghost use Rattle.frame_cut.specs.Traces.{count_of, is_trace, trace_at};
 ghost use Rattle.trace_view.specs.Values.{value_of};
 ghost use Rattle.edit_overlay.specs.CountedVolume.{IsSeen};
@@ -13,14 +14,14 @@ ghost use Rattle.bench_rules.specs.RangeFaults.{fault_of};
 use bench_rules::{AskFault, Items};
 use edit_overlay::{Overlay, ReadFault};
 use field_map::Place;
-use std::alloc::Global;
+use room::Room;
 use trace_record::PackedRecord;
 
 /// Those of traces a to b whose number at the place is from low to high, each with it. Looks at
 /// each of them once at most. Refused: E03 where one of them lacks the place, else E11 alone. On
 /// disk also where a trace could not be read (E14, E15).
 pub fn find(
-    alloc: Global,
+    room: &mut Room,
     overlay: &mut Overlay<PackedRecord>,
     a: u32,
     b: u32,
@@ -37,14 +38,15 @@ pub fn find(
         (IsTrue overlay.new.agreed → fault ≡ fault_of
         (found_of overlay.old.volume place low high a b))) }
     ensures seen { IsSeen overlay.old overlay.new (b + 1 - a) }
+    ensures memory { Rises (IsErrOf result AskFault.OutOfMemory) room.old room.new }
 {
-    let mut found = Vec::new(alloc);
+    let mut found = Vec::new(room.alloc());
     for k in 0..b - a + 1 {
         let here = number_at(overlay, a + k, place)?;
         let Some(number) = here else {
             return Err(AskFault::NoPlace);
         };
-        if !keep(&mut found, a + k, number, low, high) {
+        if !keep(room, &mut found, a + k, number, low, high) {
             return Err(without_memory(overlay, a + k, b, place)?);
         }
     }
@@ -55,7 +57,7 @@ pub fn find(
 /// Looks at each of them once at most. Refused: E03 where one of them lacks the place; E11 may come
 /// in its place. On disk also where a trace could not be read (E14, E15).
 pub fn found_among(
-    alloc: Global,
+    room: &mut Room,
     overlay: &mut Overlay<PackedRecord>,
     place: Place,
     low: i128,
@@ -70,14 +72,15 @@ pub fn found_among(
         ((fault ≡ no_place) × (IsTrue overlay.new.agreed →
         found_of_each overlay.old.volume place low high traces.now ≡ None))) }
     ensures seen { IsSeen overlay.old overlay.new (length traces.now) }
+    ensures memory { Rises (IsErrOf result AskFault.OutOfMemory) room.old room.new }
 {
-    let mut found = Vec::new(alloc);
+    let mut found = Vec::new(room.alloc());
     for p in traces {
         let here = number_at(overlay, *p, place)?;
         let Some(number) = here else {
             return Err(AskFault::NoPlace);
         };
-        if !keep(&mut found, *p, number, low, high) {
+        if !keep(room, &mut found, *p, number, low, high) {
             return Err(AskFault::OutOfMemory);
         }
     }
@@ -86,11 +89,19 @@ pub fn found_among(
 
 // Puts the trace with its number behind those that were found, where it is from low to high; false
 // where there is no room for it.
-fn keep(found: &mut Vec<(u32, i128)>, p: u32, number: i128, low: i128, high: i128) -> bool
-    ensures { IsTrue result → found.new.items ≡ (if is_between low high number
+fn keep(
+    room: &mut Room,
+    found: &mut Vec<(u32, i128)>,
+    p: u32,
+    number: i128,
+    low: i128,
+    high: i128,
+) -> bool
+    ensures kept { IsTrue result → found.new.items ≡ (if is_between low high number
         then found.old.items ++ (p, number) ∷ [] else found.old.items) }
+    ensures memory { Rises (IsFalse result) room.old room.new }
 {
-    number < low || number > high || found.push((p, number)).is_ok()
+    number < low || number > high || room.told_back(found.push((p, number))).is_ok()
 }
 
 // The number at the place of trace p, in one look.

@@ -1,14 +1,16 @@
-ghost use Rattle.std.specs.Prelude.{◌≡◌, ◌==◌, ◌+◌, ◌-◌, ◌^◌, ◌<◌, ℕ, [], All, length, slice_get, map, option_map, OnOk, OnErr, IsOk, IfOk};
+ghost use Rattle.std.specs.Prelude.{◌≡◌, ◌==◌, ◌+◌, ◌-◌, ◌^◌, ◌<◌, ℕ, [], All, length, slice_get, map, option_map, OnOk, OnErr, IsOk, IfOk, IsErr};
 ghost use Rattle.std.specs.List.Sorted.{IsStrictlySortedBy};
 ghost use Rattle.std.specs.Map.{keys_of, values_of};
 ghost use Rattle.std.specs.Map.Iter.{ShowsInOrder, deref_pair};
 ghost use Rattle.std.proofs.lemmas.Map.Lookups.{CmpEqualImpliesEq};
+ghost use Rattle.room.specs.Refusals.{Rises};
 ghost use Rattle.key_counts.specs.Ends.{IsLeast, IsGreatest, IsSpan};
 ghost use Rattle.key_counts.specs.Counts.{count_of, with_one_more, with_each_more, with_one_less, HasOneMore};
 ghost use Rattle.key_counts.specs.Rising.{Shows, times_in};
 
 use crate::runs::map_of_keys;
-use crate::{Counter, FromCount, OutOfMemory};
+use crate::{Counter, FromCount};
+use room::{OutOfMemory, Room};
 use std::alloc::Global;
 use std::collections::BTreeMap;
 use std::collections::btree_map::Iter;
@@ -46,14 +48,15 @@ impl<K: Copy + Ord> Counts<K> {
     /// sorted, which is one pass where they rise already, and then the map is made in one go. Takes
     /// memory for the map and, while it is made, for a list of its pairs; refused for want of it
     /// alone.
-    pub fn from_keys(alloc: Global, keys: Vec<K>) -> Result<Counts<K>, OutOfMemory>
+    pub fn from_keys(room: &mut Room, keys: Vec<K>) -> Result<Counts<K>, OutOfMemory>
         ensures shows { IfOk result (Shows K.cmp (times_in K.cmp keys.items)) }
 
         // Where keys that compare equal are one key, it is what raising each makes.
         ensures each { IfOk result (λ v. CmpEqualImpliesEq K.cmp →
             v ≡ with_each_more K.cmp [] keys.items) }
+        ensures memory { Rises (IsErr result) room.old room.new }
     {
-        let map = map_of_keys(alloc, keys)?;
+        let map = map_of_keys(room, keys)?;
         Ok(Counts { map })
     }
 
@@ -115,32 +118,36 @@ impl<K: Copy + Ord> Counts<K> {
     }
 
     /// The keys with their numbers as a list, rising. Takes memory for the list.
-    pub fn list<T: FromCount<K>>(&self, alloc: Global) -> Result<Vec<T>, OutOfMemory>
+    pub fn list<T: FromCount<K>>(&self, room: &mut Room) -> Result<Vec<T>, OutOfMemory>
         ensures items { IfOk result (λ list. map T.count list.items ≡ self.now) }
         ensures shows { IfOk result (λ list.
             Shows K.cmp (count_of K.cmp self.now) (map T.count list.items)) }
+        ensures memory { Rises (IsErr result) room.old room.new }
     {
-        let mut list = Vec::new(alloc);
+        let mut list = Vec::new(room.alloc());
         for (key, number) in self.pairs() {
-            list.push(T::from_count(*key, *number))?;
+            let pushed = list.push(T::from_count(*key, *number));
+            room.told_back(pushed)?;
         }
         Ok(list)
     }
 
     /// Counts the key once more. Takes memory for a key that is not held, and leaves all as it was
     /// where the growth is refused. A held key takes one look-up.
-    pub fn raise(&mut self, key: K) -> Result<(), OutOfMemory>
+    pub fn raise(&mut self, room: &mut Room, key: K) -> Result<(), OutOfMemory>
         requires { count_of K.cmp self.old key + 1 < 2 ^ 64 }
         ensures ok { OnOk result (self.new ≡ with_one_more K.cmp self.old key) }
         ensures err { OnErr result (self.new ≡ self.old) }
         ensures each { OnOk result (HasOneMore K.cmp self.old self.new key) }
         ensures held { 0 < count_of K.cmp self.old key → IsOk result }
+        ensures memory { Rises (IsErr result) room.old room.new }
     {
         if let Some(held) = self.map.get_mut(&key) {
             *held += 1;
             return Ok(());
         }
-        self.map.insert(key, 1)?;
+        let inserted = self.map.insert(key, 1);
+        room.told_back(inserted)?;
         Ok(())
     }
 
@@ -171,8 +178,8 @@ impl<K: Copy + Ord> Counter<K> for Counts<K> {
 
     ghost number = { λ es. count_of K.cmp es };
 
-    fn raise(&mut self, key: K) -> Result<(), OutOfMemory> {
-        Counts::raise(self, key)
+    fn raise(&mut self, room: &mut Room, key: K) -> Result<(), OutOfMemory> {
+        Counts::raise(self, room, key)
     }
 
     fn lower(&mut self, key: K) {

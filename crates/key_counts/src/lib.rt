@@ -5,14 +5,14 @@
 //!
 //! `Counter::raise`, `raise_any` and `raise_both` take memory only for a key that is not held;
 //! where a growth is refused they leave all as it was. `Counts::from_keys` counts all at once, and
-//! takes memory for what it makes, `Counts::list` for the list. No other call takes memory.
+//! takes memory for what it makes, `Counts::list` for the list. Each of them gives up only where a
+//! growth was refused in that call (`memory`). No other call takes memory.
 #![tactic(auto)]
 
 mod counter;
 mod counts;
 mod from_count;
 mod laws;
-mod out_of_memory;
 mod packed_ratio;
 mod raising;
 mod ratio;
@@ -22,7 +22,7 @@ pub use crate::counter::Counter;
 pub use crate::counts::Counts;
 pub use crate::from_count::FromCount;
 pub use crate::laws::equal_ratios_are_one;
-pub use crate::out_of_memory::OutOfMemory;
 pub use crate::packed_ratio::PackedRatio;
 pub use crate::raising::{beside, lower_any, lower_both, raise_any, raise_both};
 pub use crate::ratio::Ratio;
+pub use room::OutOfMemory;

@@ -1,27 +1,31 @@
-ghost use Rattle.std.specs.Prelude.{◌≡◌, ◌+◌, ◌≤◌, ◌∷◌, IfOk, length, drop};
+ghost use Rattle.std.specs.Prelude.{◌≡◌, ◌+◌, ◌≤◌, ◌∷◌, IfOk, length, drop, IsErr};
 ghost use Rattle.std.specs.BTreeMap.{IsFromIterResult};
+ghost use Rattle.room.specs.Refusals.{Rises};
 ghost use Rattle.key_counts.specs.Rising.{Shows, times_in};
 ghost use Rattle.key_counts.specs.Runs.{runs_of, runs_after};
 
-use std::alloc::{AllocError, Global};
+use room::{OutOfMemory, Room};
 use std::collections::BTreeMap;
 
 // Each key with how often it occurs. It sorts the keys first.
 pub(crate) fn map_of_keys<K: Copy + Ord>(
-    alloc: Global,
+    room: &mut Room,
     mut keys: Vec<K>,
-) -> Result<BTreeMap<K, u64>, AllocError>
-    ensures { IfOk result (λ m. Shows K.cmp (times_in K.cmp keys.items) m.entries) }
+) -> Result<BTreeMap<K, u64>, OutOfMemory>
+    ensures shows { IfOk result (λ m. Shows K.cmp (times_in K.cmp keys.items) m.entries) }
+    ensures memory { Rises (IsErr result) room.old room.new }
 {
     keys.sort_unstable();
-    map_of_runs(alloc, keys.as_slice())
+    map_of_runs(room, keys.as_slice())
 }
 
 // Each key of a sorted list with the length of its run, put into the map in one go.
-fn map_of_runs<K: Copy + Ord>(alloc: Global, keys: &[K]) -> Result<BTreeMap<K, u64>, AllocError>
-    ensures { IfOk result (IsFromIterResult K.cmp (runs_of K.cmp keys.now)) }
+fn map_of_runs<K: Copy + Ord>(room: &mut Room, keys: &[K]) -> Result<BTreeMap<K, u64>, OutOfMemory>
+    ensures runs { IfOk result (IsFromIterResult K.cmp (runs_of K.cmp keys.now)) }
+    ensures memory { Rises (IsErr result) room.old room.new }
 {
-    Runs { rest: keys }.collect(alloc)
+    let made = Runs { rest: keys }.collect(room.alloc());
+    room.told(made)
 }
 
 // The keys that are left, one run of equal keys after the other, each with its length. It takes no

@@ -1,13 +1,14 @@
 // Lines that are missing between others.
-ghost use Rattle.std.specs.Prelude.{◌≡◌, ◌+◌, ◌<◌, ◌≤◌, ◌<ℤ◌, ◌^◌, ◌++◌, ◌∷◌, [], List, pos, unsigned_abs, FitsSigned, IfOk, OnOk, option_map};
+ghost use Rattle.std.specs.Prelude.{◌≡◌, ◌+◌, ◌<◌, ◌≤◌, ◌<ℤ◌, ◌^◌, ◌++◌, ◌∷◌, [], List, pos, unsigned_abs, FitsSigned, IfOk, OnOk, option_map, IsErr};
 ghost use Rattle.std.specs.Int.{w32};
+ghost use Rattle.room.specs.Refusals.{Rises};
 ghost use Rattle.line_problems.specs.LineProblems.{LinesRise, distance as distance_of};
 ghost use Rattle.line_problems.specs.MissingLines.{is_near as is_near_of, is_whole as is_whole_of, is_gap as is_gap_of, gaps_of, missing_between as missing_between_of, missing_in, missing_of, told};
 
-use crate::OutOfMemory;
 use crate::distances::{distance, find_step};
 use crate::near::find_near;
 use grid_live::Line;
+use room::{OutOfMemory, Room};
 use std::alloc::Global;
 
 // So many runs of missing lines are told.
@@ -68,7 +69,13 @@ impl MissingLines {
     }
 
     // Those between two lines too.
-    fn add(&mut self, line: &Line, next: &Line, step: i64) -> Result<(), OutOfMemory>
+    fn add(
+        &mut self,
+        room: &mut Room,
+        line: &Line,
+        next: &Line,
+        step: i64,
+    ) -> Result<(), OutOfMemory>
         requires above { pos 0 <ℤ step }
         requires fits { step <ℤ distance_of (line.now, next.now) }
         requires room { self.old.missing + self.old.runs +
@@ -79,9 +86,10 @@ impl MissingLines {
         ensures few { OnOk result (self.new.missing + self.new.runs ≤
             self.old.missing + self.old.runs +
             unsigned_abs (distance_of (line.now, next.now))) }
+        ensures memory { Rises (IsErr result) room.old room.new }
     {
         if self.first_runs.len() < MOST_RUNS {
-            self.first_runs.push(MissingRun::between(line, next, step))?;
+            room.told_back(self.first_runs.push(MissingRun::between(line, next, step)))?;
         }
         self.missing += count_missing(line, next, step);
         self.runs += 1;
@@ -92,15 +100,16 @@ impl MissingLines {
 /// The lines that are missing in a rising list: between neighbours that are not far from the other
 /// lines, where the distance is several times the commonest one and a multiple of it. Nothing where
 /// no line is missing. Takes 16 bytes a line, and memory for the first ten runs.
-pub fn missing_lines(alloc: Global, lines: &[Line]) -> Result<Option<MissingLines>, OutOfMemory>
+pub fn missing_lines(room: &mut Room, lines: &[Line]) -> Result<Option<MissingLines>, OutOfMemory>
     requires { LinesRise lines.now }
-    ensures { IfOk result (λ missing. option_map told missing ≡ missing_of lines.now) }
+    ensures missing { IfOk result (λ missing. option_map told missing ≡ missing_of lines.now) }
+    ensures memory { Rises (IsErr result) room.old room.new }
 {
-    let Some(step) = find_step(alloc, lines)? else {
+    let Some(step) = find_step(room, lines)? else {
         return Ok(None);
     };
     let near = find_near(lines, step);
-    let missing = find_missing(alloc, lines, step, &near)?;
+    let missing = find_missing(room, lines, step, &near)?;
     if missing.runs == 0 {
         return Ok(None);
     }
@@ -109,15 +118,16 @@ pub fn missing_lines(alloc: Global, lines: &[Line]) -> Result<Option<MissingLine
 
 // What is missing between neighbours of which neither is far.
 fn find_missing(
-    alloc: Global,
+    room: &mut Room,
     lines: &[Line],
     step: i64,
     near: &Option<(i32, i32)>,
 ) -> Result<MissingLines, OutOfMemory>
     requires { LinesRise lines.now }
-    ensures { IfOk result (λ m. told m ≡ missing_in step (gaps_of step near.now lines.now)) }
+    ensures told { IfOk result (λ m. told m ≡ missing_in step (gaps_of step near.now lines.now)) }
+    ensures memory { Rises (IsErr result) room.old room.new }
 {
-    let mut missing = MissingLines::none(alloc);
+    let mut missing = MissingLines::none(room.alloc());
     let Some((first, others)) = lines.split_first() else {
         return Ok(missing);
     };
@@ -125,7 +135,7 @@ fn find_missing(
     for line in others {
         let next = *line;
         if is_gap(&last, &next, step, near) {
-            missing.add(&last, &next, step)?;
+            missing.add(room, &last, &next, step)?;
         }
         last = next;
     }

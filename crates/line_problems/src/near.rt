@@ -1,19 +1,20 @@
 // Lines that are near one another, and others that are far from them.
-ghost use Rattle.std.specs.Prelude.{◌≡◌, IfOk};
+ghost use Rattle.std.specs.Prelude.{◌≡◌, IfOk, IsErr};
+ghost use Rattle.room.specs.Refusals.{Rises};
 ghost use Rattle.line_problems.specs.NearLines.{near_at, near_of};
 
-use crate::OutOfMemory;
 use crate::distances::find_step;
 use crate::parts::{Parts, largest};
 use grid_live::Line;
-use std::alloc::Global;
+use room::{OutOfMemory, Room};
 
 /// The least and the greatest number of the lines that are near one another, where others are far
 /// from them; nothing where no line is far. Takes 16 bytes a line.
-pub fn near_lines(alloc: Global, lines: &[Line]) -> Result<Option<(i32, i32)>, OutOfMemory>
-    ensures { IfOk result (λ near. near ≡ near_of lines.now) }
+pub fn near_lines(room: &mut Room, lines: &[Line]) -> Result<Option<(i32, i32)>, OutOfMemory>
+    ensures near { IfOk result (λ near. near ≡ near_of lines.now) }
+    ensures memory { Rises (IsErr result) room.old room.new }
 {
-    match find_step(alloc, lines)? {
+    match find_step(room, lines)? {
         Some(step) => Ok(find_near(lines, step)),
         None => Ok(None),
     }

@@ -1,12 +1,12 @@
 // Lines in one line: from the first to the last, and the step.
-ghost use Rattle.std.specs.Prelude.{◌≡◌, IfOk};
+ghost use Rattle.std.specs.Prelude.{◌≡◌, IfOk, IsErr};
+ghost use Rattle.room.specs.Refusals.{Rises};
 ghost use Rattle.line_problems.specs.LineSpans.{ends_of, span_of};
 
-use crate::OutOfMemory;
 use crate::distances::find_step;
 use crate::near::find_near;
 use grid_live::Line;
-use std::alloc::Global;
+use room::{OutOfMemory, Room};
 
 /// The first and the last of the lines that are not far from the others, and the commonest distance
 /// of neighbours, which one line alone has not.
@@ -18,13 +18,14 @@ pub struct LineSpan {
 }
 
 /// The lines in one line; nothing where there is none. Takes 16 bytes a line.
-pub fn line_span(alloc: Global, lines: &[Line]) -> Result<Option<LineSpan>, OutOfMemory>
-    ensures { IfOk result (λ span. span ≡ span_of lines.now) }
+pub fn line_span(room: &mut Room, lines: &[Line]) -> Result<Option<LineSpan>, OutOfMemory>
+    ensures span { IfOk result (λ span. span ≡ span_of lines.now) }
+    ensures memory { Rises (IsErr result) room.old room.new }
 {
     let Some(ends) = find_ends(lines) else {
         return Ok(None);
     };
-    let Some(step) = find_step(alloc, lines)? else {
+    let Some(step) = find_step(room, lines)? else {
         return Ok(Some(LineSpan {
             first: ends.0,
             last: ends.1,

@@ -1,13 +1,16 @@
 // A trace counted in running values of any kind, in each or in none.
-ghost use Rattle.std.specs.Prelude.{OnOk, OnErr, IsOk};
+ghost use Rattle.std.specs.Prelude.{OnOk, OnErr, IsOk, IsErr};
+ghost use Rattle.room.specs.Refusals.{Rises};
 ghost use Rattle.trace_record.specs.Facts.{facts_of};
 ghost use Rattle.trace_record.specs.Tally.{plus, plus_beside, Same, HasKeys, HasKeysBeside, IsSmall};
 
-use record_table::{OutOfMemory, Running};
+use record_table::Running;
+use room::{OutOfMemory, Room};
 use trace_record::Record;
 
 // Counts the trace in each of two values, or in neither where a growth is refused.
 pub(crate) fn add_both<A: Running, B: Running>(
+    room: &mut Room,
     first: &mut A,
     second: &mut B,
     trace: &Record,
@@ -23,9 +26,10 @@ pub(crate) fn add_both<A: Running, B: Running>(
     ensures err_second { OnErr result (Same (B.tally second.new) (B.tally second.old)) }
     ensures held { HasKeys A.counted (A.tally first.old) (facts_of trace.now) →
         HasKeys B.counted (B.tally second.old) (facts_of trace.now) → IsOk result }
+    ensures memory { Rises (IsErr result) room.old room.new }
 {
-    first.add(trace)?;
-    if let Err(error) = second.add(trace) {
+    first.add(room, trace)?;
+    if let Err(error) = second.add(room, trace) {
         first.remove(trace);
         return Err(error);
     }
@@ -35,6 +39,7 @@ pub(crate) fn add_both<A: Running, B: Running>(
 // Counts the trace in each of two values beside another, for which it comes to stand, or in neither
 // where a growth is refused.
 pub(crate) fn add_both_beside<A: Running, B: Running>(
+    room: &mut Room,
     first: &mut A,
     second: &mut B,
     trace: &Record,
@@ -55,9 +60,10 @@ pub(crate) fn add_both_beside<A: Running, B: Running>(
         (facts_of other.now) →
         HasKeysBeside B.counted (B.tally second.old) (facts_of trace.now) (facts_of other.now) →
         IsOk result }
+    ensures memory { Rises (IsErr result) room.old room.new }
 {
-    first.add_beside(trace, other)?;
-    if let Err(error) = second.add_beside(trace, other) {
+    first.add_beside(room, trace, other)?;
+    if let Err(error) = second.add_beside(room, trace, other) {
         first.remove_beside(trace, other);
         return Err(error);
     }

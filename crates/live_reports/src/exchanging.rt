@@ -1,14 +1,16 @@
 // Records that stand in for as many others, from a place on: first the new ones are counted beside
 // the old ones, since that may be refused, and then the old ones are counted no longer. What a new
 // record and the old one have in common is not touched.
-ghost use Rattle.std.specs.Prelude.{◌≡◌, ◌+◌, ◌<◌, ◌≤◌, length, map, take, drop, slice_get, slice_index_or, All, IfSome, OnOk, OnErr, IsOk};
+ghost use Rattle.std.specs.Prelude.{◌≡◌, ◌+◌, ◌<◌, ◌≤◌, length, map, take, drop, slice_get, slice_index_or, All, IfSome, OnOk, OnErr, IsOk, IsErr};
+ghost use Rattle.room.specs.Refusals.{Rises};
 ghost use Rattle.trace_record.specs.Facts.{facts_of};
 ghost use Rattle.live_reports.specs.Exchanged.{with_records, tallies_with_new, AreFewTogether};
 ghost use Rattle.live_reports.specs.Reports.{HasEachKey};
 ghost use Rattle.live_reports.specs.Tallies.{tallies_of, tallies_of_records, SameEach};
 
 use crate::values::Values;
-use record_table::{OutOfMemory, RecordList, Records};
+use record_table::{RecordList, Records};
+use room::{OutOfMemory, Room};
 use trace_record::Record;
 
 // New record k.
@@ -24,6 +26,7 @@ pub(crate) fn new_at(new: &RecordList, k: usize) -> Record
 
 // Counts the new records beside the others, or none of them where a growth is refused.
 pub(crate) fn add_each(
+    room: &mut Room,
     values: &mut Values,
     records: &Records,
     place: usize,
@@ -38,9 +41,10 @@ pub(crate) fn add_each(
     ensures err { OnErr result (SameEach (tallies_of values.new)
         (tallies_of_records (map facts_of records.now))) }
     ensures held { All (HasEachKey records.now) new.now → IsOk result }
+    ensures memory { Rises (IsErr result) room.old room.new }
 {
     for k in (0..new.len()).rev() {
-        if let Err(error) = add_at(values, records, place, new, k) {
+        if let Err(error) = add_at(room, values, records, place, new, k) {
             remove_from(values, records, place, new, k + 1);
             return Err(error);
         }
@@ -50,6 +54,7 @@ pub(crate) fn add_each(
 
 // Counts new record k beside those that follow it and the others.
 fn add_at(
+    room: &mut Room,
     values: &mut Values,
     records: &Records,
     place: usize,
@@ -65,12 +70,13 @@ fn add_at(
         (tallies_with_new records.now place new.now k)) }
     ensures err { OnErr result (SameEach (tallies_of values.new) (tallies_of values.old)) }
     ensures held { IfSome (slice_get new.now k) (HasEachKey records.now) → IsOk result }
+    ensures memory { Rises (IsErr result) room.old room.new }
 {
     let Some(old) = records.get(place + k) else {
         unreachable!()
     };
     let record = new_at(new, k);
-    values.add_beside(&record, &old)
+    values.add_beside(room, &record, &old)
 }
 
 // No longer counts the new records from new record k on.

@@ -5,15 +5,14 @@
 //! record that moves changes nothing. It knows nothing of bytes.
 //!
 //! Places count from 0. There are fewer than 2^32 records, with at most 2^40 samples together.
-//! Calls that may take memory answer `OutOfMemory` where a growth is refused, and then nothing has
-//! changed; `remove`, `take_back` and the calls that lend take none.
+//! Calls that may take memory answer `OutOfMemory` only where a growth was refused in that call,
+//! and then nothing has changed; `remove`, `take_back` and the calls that lend take none.
 #![tactic(auto)]
 
 mod counting;
 mod exchanging;
 mod live_reports;
-mod out_of_memory;
 mod values;
 
 pub use crate::live_reports::{LiveReports, same_cells};
-pub use crate::out_of_memory::OutOfMemory;
+pub use room::OutOfMemory;

@@ -1,5 +1,6 @@
-ghost use Rattle.std.specs.Prelude.{◌≡◌, ◌<◌, ◌≤◌, ◌+◌, List, length, drop, map, slice_set, All, IfOk, OnOk, OnErr, IsOk};
+ghost use Rattle.std.specs.Prelude.{◌≡◌, ◌<◌, ◌≤◌, ◌+◌, List, length, drop, map, slice_set, All, IfOk, OnOk, OnErr, IsOk, IsErr};
 ghost use Rattle.std.specs.List.{insert, remove};
+ghost use Rattle.room.specs.Refusals.{Rises};
 ghost use Rattle.trace_seq.specs.Without.{taken_out, AreRising};
 ghost use Rattle.trace_record.specs.Facts.{facts_of};
 ghost use Rattle.trace_record.specs.Tally.{tally_of, Same};
@@ -17,14 +18,13 @@ ghost use Rattle.live_reports.specs.Exchanged.{with_records, same_cells as same_
 ghost use Rattle.live_reports.specs.OfRecords.{AreReportsOf};
 ghost use Rattle.live_reports.specs.Reports.{AreFew, HasEachKey};
 
-use crate::OutOfMemory;
 use crate::exchanging::{add_each, drop_each, new_at};
 use crate::values::Values;
 use fault_live::Faults;
 use grid_live::Grid;
 use range_stats::{Ranges, Totals};
 use record_table::{RecordList, Records};
-use std::alloc::Global;
+use room::{OutOfMemory, Room};
 use trace_record::Record;
 
 /// The grid, the ranges, the totals and the triples of inline, crossline and offset of a list of
@@ -37,11 +37,12 @@ pub struct LiveReports {
 impl LiveReports {
     /// The reports of these records, each of the four made of all at once. Takes memory for what
     /// they hold and, while one is made, for lists of keys and one of their runs.
-    pub fn from_records(alloc: Global, records: &Records) -> Result<LiveReports, OutOfMemory>
+    pub fn from_records(room: &mut Room, records: &Records) -> Result<LiveReports, OutOfMemory>
         requires { AreFew records.now }
-        ensures { IfOk result (λ reports. AreReportsOf reports records.now) }
+        ensures reports { IfOk result (λ reports. AreReportsOf reports records.now) }
+        ensures memory { Rises (IsErr result) room.old room.new }
     {
-        let values = Values::from_records(alloc, records)?;
+        let values = Values::from_records(room, records)?;
         Ok(LiveReports { values })
     }
 
@@ -86,6 +87,7 @@ impl LiveReports {
     /// record has.
     pub fn exchange(
         &mut self,
+        room: &mut Room,
         records: &Records,
         place: usize,
         changed: &Record,
@@ -97,11 +99,12 @@ impl LiveReports {
             (AreReportsOf self.new (slice_set records.now place changed.now)) }
         ensures err { OnErr result (AreReportsOf self.new records.now) }
         ensures held { HasEachKey records.now changed.now → IsOk result }
+        ensures memory { Rises (IsErr result) room.old room.new }
     {
         let Some(old) = records.get(place) else {
             unreachable!()
         };
-        self.values.add_beside(changed, &old)?;
+        self.values.add_beside(room, changed, &old)?;
         self.values.remove_beside(&old, changed);
         Ok(())
     }
@@ -111,6 +114,7 @@ impl LiveReports {
     /// common is not counted anew. All or none. Takes memory only for a key that no record has.
     pub fn exchange_each(
         &mut self,
+        room: &mut Room,
         records: &Records,
         place: usize,
         new: &RecordList,
@@ -122,8 +126,9 @@ impl LiveReports {
             (AreReportsOf self.new (with_records records.now place new.now)) }
         ensures err { OnErr result (AreReportsOf self.new records.now) }
         ensures held { All (HasEachKey records.now) new.now → IsOk result }
+        ensures memory { Rises (IsErr result) room.old room.new }
     {
-        add_each(&mut self.values, records, place, new)?;
+        add_each(room, &mut self.values, records, place, new)?;
         drop_each(&mut self.values, records, place, new);
         Ok(())
     }
@@ -132,6 +137,7 @@ impl LiveReports {
     /// behind all where there is none. Takes memory for its keys that no record has.
     pub fn insert(
         &mut self,
+        room: &mut Room,
         records: &Records,
         place: usize,
         added: &Record,
@@ -142,8 +148,9 @@ impl LiveReports {
         ensures ok { OnOk result
             (AreReportsOf self.new (insert records.now place added.now)) }
         ensures err { OnErr result (AreReportsOf self.new records.now) }
+        ensures memory { Rises (IsErr result) room.old room.new }
     {
-        self.values.add(added)?;
+        self.values.add(room, added)?;
         Ok(())
     }
 

@@ -1,5 +1,6 @@
 // A block of traces moved.
-ghost use Rattle.std.specs.Prelude.{◌≡◌, ◌+◌, ◌-◌, ◌<◌, ◌^◌, IsTrue, IfNone, OnErr};
+ghost use Rattle.std.specs.Prelude.{◌≡◌, ◌+◌, ◌-◌, ◌<◌, ◌^◌, IsTrue, IfNone, OnErr, IsErrOf};
+ghost use Rattle.room.specs.Refusals.{Rises};
 ghost use Rattle.bench_rules.specs.BlockMoves.{block_refusal};
 ghost use Rattle.bench_rules.specs.declared.edit.Edit.TheVariants as edits;
 ghost use Rattle.bench_rules.specs.Steps.{Step};
@@ -8,7 +9,7 @@ ghost use Rattle.live_volume.specs.Held.{IsReadAs};
 use crate::live_volume::LiveVolume;
 use bench_rules::Refusal;
 use many_traces::exchanges_to_move;
-use std::alloc::Global;
+use room::Room;
 
 impl LiveVolume {
     // Traces a to b, as one block, out, and in again in their order so that the first of them is
@@ -16,7 +17,7 @@ impl LiveVolume {
     // E01 for b, E01 for `to`; else E11 alone.
     pub(crate) fn move_block(
         &mut self,
-        alloc: Global,
+        room: &mut Room,
         a: u32,
         b: u32,
         to: u32,
@@ -28,12 +29,13 @@ impl LiveVolume {
         ensures agreed { IsTrue self.new.agreed → IsTrue self.old.agreed }
         ensures loaded { self.new.loaded ≡ self.old.loaded }
         ensures looks { self.new.looks ≡ self.old.looks }
+        ensures memory { Rises (IsErrOf result Refusal.OutOfMemory) room.old room.new }
     {
         if let Some(refusal) = self.block_refusal(a, b, to) {
             return Err(refusal);
         }
         self.stands();
-        let pairs = exchanges_to_move(alloc, a, b, to)?;
+        let pairs = exchanges_to_move(room, a, b, to)?;
         self.exchange_pairs(pairs);
         Ok(())
     }

@@ -1,7 +1,8 @@
 // Edits of the traces that conditions choose. Numbers are given to them by the edits of traces that
 // follow one another: they are brought to the front of the file, in their order, and afterwards all
 // back to where they stood.
-ghost use Rattle.std.specs.Prelude.{◌≡◌, ◌*◌, ◌<◌, [], length, true, None, is_some, IsTrue, IfOk, IfErr, OnOk, OnErr};
+ghost use Rattle.std.specs.Prelude.{◌≡◌, ◌*◌, ◌<◌, [], length, true, None, is_some, IsTrue, IfOk, IfErr, OnOk, OnErr, IsErrOf, ◌≢◌, IfSome};
+ghost use Rattle.room.specs.Refusals.{Rises};
 ghost use Rattle.frame_cut.specs.Cuts.{IsCut};
 ghost use Rattle.frame_cut.specs.Traces.{count_of};
 ghost use Rattle.edit_overlay.specs.CountedVolume.{RisesAtMost};
@@ -22,7 +23,7 @@ use bench_rules::{Chosen, ChosenEdit, Field, Operand, Operator, Refusal, term_of
 use chosen_traces::{choose, exchanges_back, exchanges_to_front, retold};
 use many_traces::{have_places, have_terms, refusal_for};
 use record_table::Records;
-use std::alloc::Global;
+use room::Room;
 
 impl LiveVolume {
     /// An edit of the traces that are chosen: done whole, and then how many they were, where there
@@ -32,7 +33,7 @@ impl LiveVolume {
     /// read (E14, E15).
     pub fn apply_chosen(
         &mut self,
-        alloc: Global,
+        room: &mut Room,
         chosen: &Chosen,
         edit: &ChosenEdit,
     ) -> Result<Option<u32>, Refusal>
@@ -46,6 +47,7 @@ impl LiveVolume {
         ensures loaded { self.new.loaded ≡ self.old.loaded }
         ensures looks { RisesAtMost self.old.looks self.new.looks
             (edit_looks self.old.state (edits.OfChosen chosen.now edit.now)) }
+        ensures memory { Rises (IsErrOf result Refusal.OutOfMemory) room.old room.new }
     {
         if let Some(refusal) = self.no_range(chosen.traces) {
             return Err(refusal);
@@ -54,11 +56,11 @@ impl LiveVolume {
             return Err(Refusal::NoField);
         }
         self.stands();
-        let traces = match choose(alloc, &mut self.overlay, &self.fields, chosen) {
+        let traces = match choose(room, &mut self.overlay, &self.fields, chosen) {
             Ok(traces) => traces,
             Err(fault) => return Err(refusal_for(fault)),
         };
-        self.edit_each(alloc, traces.as_slice(), edit)?;
+        self.edit_each(room, traces.as_slice(), edit)?;
         if chosen.conditions.as_slice().is_empty() {
             Ok(None)
         } else {
@@ -99,7 +101,12 @@ impl LiveVolume {
     }
 
     // The edit of these traces, which rise: done whole, or refused, and all is as it was.
-    fn edit_each(&mut self, alloc: Global, traces: &[u32], edit: &ChosenEdit) -> Result<(), Refusal>
+    fn edit_each(
+        &mut self,
+        room: &mut Room,
+        traces: &[u32],
+        edit: &ChosenEdit,
+    ) -> Result<(), Refusal>
         requires rising { AreRising 1 (count_of self.old.state.volume) traces.now }
         requires fields { has_fields_of self.old.state.fields edit.now ≡ true }
         ensures none { OnOk result (IsTrue self.new.agreed → refusal_of_edit
@@ -117,6 +124,7 @@ impl LiveVolume {
         ensures loaded { self.new.loaded ≡ self.old.loaded }
         ensures looks { RisesAtMost self.old.looks self.new.looks
             (each_looks self.old.state.fields edit.now (length traces.now)) }
+        ensures memory { Rises (IsErrOf result Refusal.OutOfMemory) room.old room.new }
     {
         self.stands();
         if traces.is_empty() {
@@ -131,28 +139,30 @@ impl LiveVolume {
                 field,
                 first_value,
                 step,
-            } => self.renumber_each(alloc, traces, field, *first_value, *step),
+            } => self.renumber_each(room, traces, field, *first_value, *step),
             ChosenEdit::Compute {
                 field,
                 source,
                 steps,
-            } => self.compute_each(alloc, traces, field, source, steps.as_slice()),
+            } => self.compute_each(room, traces, field, source, steps.as_slice()),
             ChosenEdit::Delete => {
                 self.delete_each(traces);
                 Ok(())
             }
-            ChosenEdit::Swap(first, second) => self.swap_each(alloc, traces, first, second),
+            ChosenEdit::Swap(first, second) => self.swap_each(room, traces, first, second),
             ChosenEdit::Fill {
                 first_sample,
                 last_sample,
                 value,
-            } => self.fill_each(alloc, traces, *first_sample, *last_sample, *value),
+            } => self.fill_each(room, traces, *first_sample, *last_sample, *value),
         }
     }
 
     // What the edit refuses where no trace is chosen: a value for samples, E12 and E04.
     fn refusal_of_none(&self, edit: &ChosenEdit) -> Option<Refusal>
-        ensures { result ≡ refusal_of_edit self.now.state.volume self.now.state.fields edit.now [] }
+        ensures refusal { result ≡ refusal_of_edit self.now.state.volume self.now.state.fields
+            edit.now [] }
+        ensures other { IfSome result (λ refusal. refusal ≢ Refusal.OutOfMemory) }
     {
         match edit {
             ChosenEdit::Fill { value, .. } => self.sample_value_refusal(*value),
@@ -170,7 +180,7 @@ impl LiveVolume {
     // The field of these traces counted up, in their order.
     fn renumber_each(
         &mut self,
-        alloc: Global,
+        room: &mut Room,
         traces: &[u32],
         field: &Field,
         first: i128,
@@ -197,15 +207,16 @@ impl LiveVolume {
         ensures looks { RisesAtMost self.old.looks self.new.looks (each_looks
             self.old.state.fields (chosen_edits.Renumber field.now first step)
             (length traces.now)) }
+        ensures memory { Rises (IsErrOf result Refusal.OutOfMemory) room.old room.new }
     {
         self.stands();
 
         // Read for the proof alone, which learns that the traces are counted in 32 bits.
         let _count = self.count();
-        let forth = exchanges_to_front(alloc, traces)?;
-        let back = exchanges_back(alloc, traces)?;
+        let forth = exchanges_to_front(room, traces)?;
+        let back = exchanges_back(room, traces)?;
         self.exchange_pairs(forth);
-        let done = self.renumber(alloc, 1, traces.len() as u32, field, first, step);
+        let done = self.renumber(room, 1, traces.len() as u32, field, first, step);
         self.exchange_pairs(back);
         match done {
             Ok(_) => Ok(()),
@@ -216,7 +227,7 @@ impl LiveVolume {
     // The field of these traces computed.
     fn compute_each(
         &mut self,
-        alloc: Global,
+        room: &mut Room,
         traces: &[u32],
         field: &Field,
         source: &Operand,
@@ -243,15 +254,16 @@ impl LiveVolume {
         ensures agreed { IsTrue self.new.agreed → IsTrue self.old.agreed }
         ensures loaded { self.new.loaded ≡ self.old.loaded }
         ensures looks { RisesAtMost self.old.looks self.new.looks (2 * length traces.now) }
+        ensures memory { Rises (IsErrOf result Refusal.OutOfMemory) room.old room.new }
     {
         self.stands();
 
         // Read for the proof alone, which learns that the traces are counted in 32 bits.
         let _count = self.count();
-        let forth = exchanges_to_front(alloc, traces)?;
-        let back = exchanges_back(alloc, traces)?;
+        let forth = exchanges_to_front(room, traces)?;
+        let back = exchanges_back(room, traces)?;
         self.exchange_pairs(forth);
-        let done = self.compute(alloc, 1, traces.len() as u32, field, source, steps);
+        let done = self.compute(room, 1, traces.len() as u32, field, source, steps);
         self.exchange_pairs(back);
         match done {
             Ok(_) => Ok(()),

@@ -1,5 +1,6 @@
 // A field of many traces computed from numbers and other fields of each.
-ghost use Rattle.std.specs.Prelude.{◌≡◌, ◌⊎◌, ◌+◌, ◌-◌, ◌*◌, ◌≤◌, ◌<◌, length, None, IsTrue, IfOk, IfErr, OnOk, OnErr};
+ghost use Rattle.std.specs.Prelude.{◌≡◌, ◌⊎◌, ◌+◌, ◌-◌, ◌*◌, ◌≤◌, ◌<◌, length, None, IsTrue, IfOk, IfErr, OnOk, OnErr, IsErrOf};
+ghost use Rattle.room.specs.Refusals.{Rises};
 ghost use Rattle.frame_cut.specs.Traces.{count_of};
 ghost use Rattle.edit_overlay.specs.CountedVolume.{RisesAtMost};
 ghost use Rattle.bench_rules.specs.declared.edit.Edit.TheVariants as edits;
@@ -15,7 +16,7 @@ use crate::live_volume::LiveVolume;
 use bench_rules::{Field, Operand, Operator, Refusal};
 use field_map::Place;
 use many_traces::computed_bytes;
-use std::alloc::Global;
+use room::Room;
 
 impl LiveVolume {
     /// The field of each of traces a to b computed from the source by the steps, on numbers of that
@@ -27,7 +28,7 @@ impl LiveVolume {
     /// where a trace could not be read (E14, E15).
     pub fn compute(
         &mut self,
-        alloc: Global,
+        room: &mut Room,
         a: u32,
         b: u32,
         field: &Field,
@@ -45,6 +46,7 @@ impl LiveVolume {
         ensures count { count_of self.new.state.volume ≡ count_of self.old.state.volume }
         ensures moved { IfOk result (λ moved. IsTrue self.new.agreed →
             moved ≡ any_moves self.old.state self.new.state a b) }
+        ensures memory { Rises (IsErrOf result Refusal.OutOfMemory) room.old room.new }
     {
         if let Some(refusal) = self.range_refusal(a, b) {
             return Err(refusal);
@@ -53,13 +55,13 @@ impl LiveVolume {
             return Err(Refusal::NoField);
         };
         self.stands();
-        let bytes = match self.computed(alloc, a, b, place, source, steps) {
+        let bytes = match self.computed(room, a, b, place, source, steps) {
             Ok(bytes) => bytes,
             Err(refusal) => return Err(refusal),
         };
         let at = u64::from(place.offset());
         self.put_each(
-            alloc,
+            room,
             a,
             b - a + 1,
             at,
@@ -72,7 +74,7 @@ impl LiveVolume {
     // refusal: E02, E03, E13, E04, E06.
     fn computed(
         &mut self,
-        alloc: Global,
+        room: &mut Room,
         a: u32,
         b: u32,
         place: Place,
@@ -100,9 +102,10 @@ impl LiveVolume {
             a b))) }
         ensures seen { OnlyLooks self.old self.new
             (looks_at (formula_at self.old.state.fields place source.now steps.now) (b + 1 - a)) }
+        ensures memory { Rises (IsErrOf result Refusal.OutOfMemory) room.old room.new }
     {
         computed_bytes(
-            alloc,
+            room,
             &mut self.overlay,
             &self.fields,
             a,

@@ -1,6 +1,6 @@
 // What the reading of the load asked for, written into the binary header, and the bytes of no trace
 // that it keeps taken away.
-ghost use Rattle.std.specs.Prelude.{◌≡◌, IsTrue, OnErr, None};
+ghost use Rattle.std.specs.Prelude.{◌≡◌, IsTrue, OnErr, None, ◌≢◌, IfErr};
 ghost use Rattle.std.specs.List.{list_all};
 ghost use Rattle.bench_rules.specs.declared.edit.Edit.TheVariants as edits;
 ghost use Rattle.bench_rules.specs.Refused.{first_refusal};
@@ -23,6 +23,7 @@ impl LiveVolume {
         ensures agreed { IsTrue self.new.agreed → IsTrue self.old.agreed }
         ensures loaded { self.new.loaded ≡ self.old.loaded }
         ensures looks { self.new.looks ≡ self.old.looks }
+        ensures other { IfErr result (λ refusal. refusal ≢ Refusal.OutOfMemory) }
     {
         if !self.can_declare() {
             return Err(Refusal::Frame);

@@ -1,5 +1,6 @@
 // One value in a range of the samples of each of chosen traces.
-ghost use Rattle.std.specs.Prelude.{◌≡◌, ◌⊎◌, ◌+◌, ◌-◌, ◌*◌, ◌<◌, ◌≤◌, ℕ, [], length, get_or, slice_index_or, None, Some, IfSome, IsTrue, IfOk, IfErr, OnOk, OnErr};
+ghost use Rattle.std.specs.Prelude.{◌≡◌, ◌⊎◌, ◌+◌, ◌-◌, ◌*◌, ◌<◌, ◌≤◌, ℕ, [], length, get_or, slice_index_or, None, Some, IfSome, IsTrue, IfOk, IfErr, OnOk, OnErr, IsErrOf};
+ghost use Rattle.room.specs.Refusals.{Rises};
 ghost use Rattle.sample_codes.specs.Formats.{samples_bytes, values, width};
 ghost use Rattle.frame_cut.specs.Cuts.{IsCut, IsTrace};
 ghost use Rattle.frame_cut.specs.Frames.{sample_count};
@@ -24,14 +25,14 @@ use crate::volume_edits::refusal_of_records;
 use bench_rules::{Refusal, repeated_sample, sample_value_refusal};
 use chosen_traces::{exchanges_back, exchanges_to_front};
 use many_traces::sample_places;
-use std::alloc::Global;
+use room::Room;
 use volume_records::{commit_with_records, prepared_whole_records};
 
 impl LiveVolume {
     // The value in each sample from `first` to `last` of each of these traces.
     pub(crate) fn fill_each(
         &mut self,
-        alloc: Global,
+        room: &mut Room,
         traces: &[u32],
         first: u32,
         last: u32,
@@ -55,19 +56,20 @@ impl LiveVolume {
         ensures agreed { IsTrue self.new.agreed → IsTrue self.old.agreed }
         ensures loaded { self.new.loaded ≡ self.old.loaded }
         ensures looks { RisesAtMost self.old.looks self.new.looks (2 * length traces.now) }
+        ensures memory { Rises (IsErrOf result Refusal.OutOfMemory) room.old room.new }
     {
         self.stands();
         if let Some(refusal) = self.sample_value_refusal(value) {
             return Err(refusal);
         }
-        let places = match self.sample_places(alloc, traces, first, last) {
+        let places = match self.sample_places(room, traces, first, last) {
             Ok(places) => places,
             Err(refusal) => return Err(refusal),
         };
         if first > last {
             return Ok(());
         }
-        self.put_filled(alloc, traces, first, last, value, places.as_slice())
+        self.put_filled(room, traces, first, last, value, places.as_slice())
     }
 
     // The refusal of a value for samples, whatever trace they are of: E12, E04.
@@ -80,7 +82,7 @@ impl LiveVolume {
     // Where sample `first` begins in each of these traces, or the first refusal: E05.
     fn sample_places(
         &mut self,
-        alloc: Global,
+        room: &mut Room,
         traces: &[u32],
         first: u32,
         last: u32,
@@ -99,8 +101,9 @@ impl LiveVolume {
             (λ p. samples_refusal self.old.state.volume.head first last
             (trace_at self.old.state.volume p)) traces.now ≡ Some refusal)) }
         ensures seen { OnlyLooks self.old self.new (length traces.now) }
+        ensures memory { Rises (IsErrOf result Refusal.OutOfMemory) room.old room.new }
     {
-        sample_places(alloc, &mut self.overlay, traces, first, last)
+        sample_places(room, &mut self.overlay, traces, first, last)
     }
 
     // Lays the value over these samples of the traces, which are brought to the front of the file
@@ -108,7 +111,7 @@ impl LiveVolume {
     // want of memory, or on disk where a trace could not be read.
     fn put_filled(
         &mut self,
-        alloc: Global,
+        room: &mut Room,
         traces: &[u32],
         first: u32,
         last: u32,
@@ -136,16 +139,17 @@ impl LiveVolume {
         ensures agreed { IsTrue self.new.agreed → IsTrue self.old.agreed }
         ensures loaded { self.new.loaded ≡ self.old.loaded }
         ensures looks { RisesAtMost self.old.looks self.new.looks (length traces.now) }
+        ensures memory { Rises (IsErrOf result Refusal.OutOfMemory) room.old room.new }
     {
         self.stands();
 
         // Read for the proof alone, which learns that the traces are counted in 32 bits.
         let _count = self.count();
-        let bytes = self.range_bytes(alloc, traces[0], first, last, value)?;
-        let forth = exchanges_to_front(alloc, traces)?;
-        let back = exchanges_back(alloc, traces)?;
+        let bytes = self.range_bytes(room, traces[0], first, last, value)?;
+        let forth = exchanges_to_front(room, traces)?;
+        let back = exchanges_back(room, traces)?;
         self.exchange_pairs(forth);
-        let done = self.put_over(alloc, 1, places, bytes.as_slice());
+        let done = self.put_over(room, 1, places, bytes.as_slice());
         self.exchange_pairs(back);
         match done {
             Ok(()) => Ok(()),
@@ -156,7 +160,7 @@ impl LiveVolume {
     // The bytes of the value once for each sample from `first` to `last`, where trace p has these.
     fn range_bytes(
         &self,
-        alloc: Global,
+        room: &mut Room,
         p: u32,
         first: u32,
         last: u32,
@@ -174,6 +178,7 @@ impl LiveVolume {
         ensures long { IfOk result (λ bytes. length bytes.items ≤
             width self.now.state.volume.head.format * (last + 1 - first)) }
         ensures err { IfErr result (λ refusal. refusal ≡ no_memory) }
+        ensures memory { Rises (IsErrOf result Refusal.OutOfMemory) room.old room.new }
     {
         let head = self.overlay.head();
         let Some(format) = head.format.values() else {
@@ -183,7 +188,7 @@ impl LiveVolume {
         // Read for the proof alone, which learns that samples are counted in 32 bits.
         let _samples = self.sample_count(p);
         let count = (last - first).saturating_add(1);
-        repeated_sample(alloc, head.order, format, value, count)
+        repeated_sample(room, head.order, format, value, count)
     }
 
     // The number of samples of trace p.
@@ -201,7 +206,7 @@ impl LiveVolume {
     // for its new record. Refused for want of memory, or on disk where a trace could not be read.
     fn put_over(
         &mut self,
-        alloc: Global,
+        room: &mut Room,
         a: u32,
         places: &[u64],
         bytes: &[u8],
@@ -224,14 +229,15 @@ impl LiveVolume {
         ensures agreed { IsTrue self.new.agreed → IsTrue self.old.agreed }
         ensures loaded { self.new.loaded ≡ self.old.loaded }
         ensures looks { RisesAtMost self.old.looks self.new.looks (length places.now) }
+        ensures memory { Rises (IsErrOf result Refusal.OutOfMemory) room.old room.new }
     {
         // Read for the proof alone, which learns that the traces are counted in 32 bits.
         let _count = self.count();
-        self.overlay.prepare_put_over(alloc, a, places, bytes)?;
+        self.overlay.prepare_put_over(room, a, places, bytes)?;
         let count = places.len() as u32;
-        match prepared_whole_records(alloc, &mut self.overlay, &self.fields, a, count) {
+        match prepared_whole_records(room, &mut self.overlay, &self.fields, a, count) {
             Ok(records) => {
-                match commit_with_records(&mut self.overlay, &mut self.reports, a, &records) {
+                match commit_with_records(room, &mut self.overlay, &mut self.reports, a, &records) {
                     Ok(()) => Ok(()),
                     Err(_) => Err(Refusal::OutOfMemory),
                 }

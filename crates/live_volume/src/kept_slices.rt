@@ -1,5 +1,6 @@
 // What a volume gives to those who keep slices of it.
-ghost use Rattle.std.specs.Prelude.{◌≡◌, ◌<◌, ◌≤◌, ℕ, false, length, option_map, if◌then◌else◌, IsTrue, IsFalse, IfOk, IfErr, OnOk, OnErr};
+ghost use Rattle.std.specs.Prelude.{◌≡◌, ◌<◌, ◌≤◌, ℕ, false, length, option_map, if◌then◌else◌, IsTrue, IsFalse, IfOk, IfErr, OnOk, OnErr, IsErrOf};
+ghost use Rattle.room.specs.Refusals.{Rises};
 ghost use Rattle.field_map.specs.Binding.{HasGeometry};
 ghost use Rattle.field_map.specs.declared.place.TheConstants.{TRACE_HEADER_BYTES};
 ghost use Rattle.frame_cut.specs.Cuts.{IsCut};
@@ -14,7 +15,7 @@ ghost use Rattle.bench_rules.specs.Reports.{slice_in};
 
 use crate::live_volume::LiveVolume;
 use bench_rules::Row;
-use std::alloc::Global;
+use room::Room;
 use time_slice::{SliceCache, SliceFault};
 
 impl LiveVolume {
@@ -56,7 +57,7 @@ impl LiveVolume {
     /// then the same slices are kept.
     pub fn slice(
         &mut self,
-        alloc: Global,
+        room: &mut Room,
         slices: &mut SliceCache,
         k: u32,
     ) -> Result<Vec<Row>, SliceFault>
@@ -76,7 +77,8 @@ impl LiveVolume {
         ensures looks { RisesAtMost self.old.looks self.new.looks
             (if is_kept k (kept_numbers slices.old.entries) then 0
             else count_of self.old.state.volume) }
+        ensures memory { Rises (IsErrOf result SliceFault.OutOfMemory) room.old room.new }
     {
-        slices.slice(alloc, &mut self.overlay, k)
+        slices.slice(room, &mut self.overlay, k)
     }
 }

@@ -1,6 +1,7 @@
-ghost use Rattle.std.specs.Prelude.{◌≡◌, ◌≤◌, ◌↔◌, [], true, false, length, None, Some, IsSome, IfSome, IsTrue, IfOk, IfErr, OnOk, OnErr, MatchResult};
+ghost use Rattle.std.specs.Prelude.{◌≡◌, ◌≤◌, ◌↔◌, [], true, false, length, None, Some, IsSome, IfSome, IsTrue, IfOk, IfErr, OnOk, OnErr, MatchResult, IsErrOf, ◌≢◌};
 ghost use Rattle.std.specs.Borrow.{sem};
 ghost use Rattle.std.specs.Io.KnownBytes.{Consumes, IsAtEnd};
+ghost use Rattle.room.specs.Refusals.{Rises};
 ghost use Rattle.field_map.specs.Binding.{geometry_at_load, is_geometry as is_geometry_name};
 ghost use Rattle.field_map.specs.Places.{offset_of};
 ghost use Rattle.frame_cut.specs.Cuts.{IsCut};
@@ -38,7 +39,7 @@ use live_reports::LiveReports;
 use many_traces::table_answer;
 use num_order::{fits, write};
 use problem_answers::{problems_answer, survey_answer};
-use std::alloc::Global;
+use room::Room;
 use std::io::{Read, Write};
 use std::marker::Model;
 use std::mem;
@@ -86,7 +87,7 @@ impl LiveVolume {
     /// gives, L16 where a growth was refused. A refused load has taken at most one byte above the
     /// limit.
     pub fn load<R: Read>(
-        alloc: Global,
+        room: &mut Room,
         reader: &mut Source<R>,
         reading: Reading,
         limits: Limits,
@@ -100,7 +101,7 @@ impl LiveVolume {
         ensures fields { IfOk result (λ b. b.state.fields ≡ geometry_at_load) }
         ensures reading { IfOk result (λ b. b.state.reading ≡ reading) }
         ensures limits { IfOk result (λ b. b.state.limits ≡ limits) }
-        ensures memory { IfOk result (λ b. b.state.on_disk ≡ false) }
+        ensures in_memory { IfOk result (λ b. b.state.on_disk ≡ false) }
         ensures loaded { IfOk result (λ b. b.loaded ≡ bytes_of b.state.volume) }
         ensures agreed { IfOk result (λ b. IsTrue b.agreed) }
         ensures refused { IfErr result (λ fault. IsLoadFault (R.remaining reader.old.inner) reading
@@ -109,16 +110,17 @@ impl LiveVolume {
             (R.remaining reader.new.inner) limits) }
         ensures failures { MatchResult result (λ _. reader.new.failures ≡ reader.old.failures)
             (λ fault. FailuresAfterRefusal fault reader.old.failures reader.new.failures) }
+        ensures memory { Rises (IsErrOf result LoadFault.OutOfMemory) room.old room.new }
     {
-        let loading = Loading::load(alloc, reader, reading, limits)?;
-        let fields = match FieldMap::standard(alloc, loading.head().extensions) {
+        let loading = Loading::load(room, reader, reading, limits)?;
+        let fields = match FieldMap::standard(room, loading.head().extensions) {
             Ok(fields) => fields,
             Err(_refused) => {
                 loading.close();
                 return Err(LoadFault::OutOfMemory);
             }
         };
-        match with_records(alloc, loading, &fields) {
+        match with_records(room, loading, &fields) {
             Ok((overlay, reports)) => Ok(LiveVolume {
                 overlay,
                 fields,
@@ -136,7 +138,7 @@ impl LiveVolume {
     /// else refuses them; `OfChosen`, whose traces have to be listed first, in the place of any
     /// refusal but E01. On disk an edit that looks is also refused where a trace could not be read
     /// (E14, E15).
-    pub fn apply(&mut self, alloc: Global, edit: &Edit) -> Result<(), Refusal>
+    pub fn apply(&mut self, room: &mut Room, edit: &Edit) -> Result<(), Refusal>
         ensures step { IsTrue self.new.agreed →
             Step self.old.state edit.now result self.new.state }
         ensures err { OnErr result (self.new.state ≡ self.old.state) }
@@ -145,9 +147,10 @@ impl LiveVolume {
         ensures loaded { self.new.loaded ≡ self.old.loaded }
         ensures looks { RisesAtMost self.old.looks self.new.looks
             (edit_looks self.old.state edit.now) }
+        ensures memory { Rises (IsErrOf result Refusal.OutOfMemory) room.old room.new }
     {
         match edit {
-            Edit::Set(p, field, value) => self.set_field(alloc, *p, field, *value),
+            Edit::Set(p, field, value) => self.set_field(room, *p, field, *value),
             Edit::SetBin(field, value) => self.set_bin(field, *value),
             Edit::Declare => self.declare(),
             Edit::DropTail => {
@@ -155,16 +158,16 @@ impl LiveVolume {
                 Ok(())
             }
             Edit::SetText(q, text) => self.set_text(*q, text),
-            Edit::Map(name, field) => self.bind(alloc, name, field),
-            Edit::MapAs(mapping) => self.map_as(alloc, *mapping),
+            Edit::Map(name, field) => self.bind(room, name, field),
+            Edit::MapAs(mapping) => self.map_as(room, *mapping),
             Edit::Unmap(name) => self.unbind(name),
-            Edit::Patch(p, k, values) => self.patch(alloc, *p, *k, values.as_slice()),
-            Edit::Blank(p) => self.blank(alloc, *p),
-            Edit::Copy(q, p) => self.copy(alloc, *q, *p),
+            Edit::Patch(p, k, values) => self.patch(room, *p, *k, values.as_slice()),
+            Edit::Blank(p) => self.blank(room, *p),
+            Edit::Copy(q, p) => self.copy(room, *q, *p),
             Edit::Delete(p) => self.delete(*p),
-            Edit::Move(a, b) => self.move_trace(alloc, *a, *b),
-            Edit::MoveBlock(a, b, to) => self.move_block(alloc, *a, *b, *to),
-            Edit::Resize(p, count) => self.resize(alloc, *p, *count),
+            Edit::Move(a, b) => self.move_trace(room, *a, *b),
+            Edit::MoveBlock(a, b, to) => self.move_block(room, *a, *b, *to),
+            Edit::Resize(p, count) => self.resize(room, *p, *count),
             Edit::Renumber {
                 first_trace: a,
                 last_trace: b,
@@ -172,7 +175,7 @@ impl LiveVolume {
                 first_value: first,
                 step,
             } => {
-                self.renumber(alloc, *a, *b, field, *first, *step)?;
+                self.renumber(room, *a, *b, field, *first, *step)?;
                 Ok(())
             }
             Edit::Compute {
@@ -182,7 +185,7 @@ impl LiveVolume {
                 source,
                 steps,
             } => {
-                self.compute(alloc, *a, *b, field, source, steps.as_slice())?;
+                self.compute(room, *a, *b, field, source, steps.as_slice())?;
                 Ok(())
             }
             Edit::Sort {
@@ -190,9 +193,9 @@ impl LiveVolume {
                 last_trace: b,
                 fields,
                 falling,
-            } => { self.sort(alloc, *a, *b, fields.as_slice(), falling.as_slice()) }
+            } => { self.sort(room, *a, *b, fields.as_slice(), falling.as_slice()) }
             Edit::OfChosen(chosen, edit) => {
-                self.apply_chosen(alloc, chosen, edit)?;
+                self.apply_chosen(room, chosen, edit)?;
                 Ok(())
             }
         }
@@ -215,7 +218,7 @@ impl LiveVolume {
     // The value into the field of trace p, or the first refusal: E01, E02, E03, E04, E06.
     fn set_field(
         &mut self,
-        alloc: Global,
+        room: &mut Room,
         p: u32,
         field: &Field,
         value: i128,
@@ -228,9 +231,10 @@ impl LiveVolume {
         ensures loaded { self.new.loaded ≡ self.old.loaded }
         ensures looks { RisesAtMost self.old.looks self.new.looks
             (edit_looks self.old.state (edits.Set p field.now value)) }
+        ensures memory { Rises (IsErrOf result Refusal.OutOfMemory) room.old room.new }
     {
         match self.place_in_trace(field) {
-            Some(place) => self.set(alloc, p, place, value),
+            Some(place) => self.set(room, p, place, value),
             None if self.has_trace(p) => Err(Refusal::NoField),
             None => Err(Refusal::NoTrace(p, self.overlay.count())),
         }
@@ -239,7 +243,7 @@ impl LiveVolume {
     // The value into the place of trace p, or the first refusal. Where each trace has the place,
     // and no value there gives it another length, of the value only E04 may come, and no look is
     // needed for it.
-    fn set(&mut self, alloc: Global, p: u32, place: Place, value: i128) -> Result<(), Refusal>
+    fn set(&mut self, room: &mut Room, p: u32, place: Place, value: i128) -> Result<(), Refusal>
         ensures step { IsTrue self.new.agreed →
             Step self.old.state (edits.Set p (fields.Place place) value) result self.new.state }
         ensures err { OnErr result (self.new.state ≡ self.old.state) }
@@ -248,20 +252,27 @@ impl LiveVolume {
         ensures loaded { self.new.loaded ≡ self.old.loaded }
         ensures looks { RisesAtMost self.old.looks self.new.looks (put_looks self.old.state.fields
             (Some place) (trace_looks self.old.state.volume p 2)) }
+        ensures memory { Rises (IsErrOf result Refusal.OutOfMemory) room.old room.new }
     {
         self.stands();
         if !self.has_trace(p) || !leaves_length(place) {
-            return self.set_seen(alloc, p, place, value);
+            return self.set_seen(room, p, place, value);
         }
         if !fits(place.kind, value) {
             return Err(Refusal::DoesNotFit);
         }
-        self.put_value(alloc, p, place, value)
+        self.put_value(room, p, place, value)
     }
 
     // The same where there is no trace p, or more than E04 may come: the trace, if there is one, is
     // looked at for the first refusal.
-    fn set_seen(&mut self, alloc: Global, p: u32, place: Place, value: i128) -> Result<(), Refusal>
+    fn set_seen(
+        &mut self,
+        room: &mut Room,
+        p: u32,
+        place: Place,
+        value: i128,
+    ) -> Result<(), Refusal>
         requires { IsTrue (is_trace self.old.state.volume p) → leaves_length_of place ≡ false }
         ensures step { IsTrue self.new.agreed →
             Step self.old.state (edits.Set p (fields.Place place) value) result self.new.state }
@@ -271,16 +282,23 @@ impl LiveVolume {
         ensures loaded { self.new.loaded ≡ self.old.loaded }
         ensures looks { RisesAtMost self.old.looks self.new.looks
             (trace_looks self.old.state.volume p 2) }
+        ensures memory { Rises (IsErrOf result Refusal.OutOfMemory) room.old room.new }
     {
         match value_refusal(&mut self.overlay, p, place, value)? {
             Some(refusal) => Err(refusal),
-            None => self.put_value(alloc, p, place, value),
+            None => self.put_value(room, p, place, value),
         }
     }
 
     // The value into the place of trace p, where nothing but memory or a read refuses it; memory
     // alone, and with no look, where the record of the trace tells the new one.
-    fn put_value(&mut self, alloc: Global, p: u32, place: Place, value: i128) -> Result<(), Refusal>
+    fn put_value(
+        &mut self,
+        room: &mut Room,
+        p: u32,
+        place: Place,
+        value: i128,
+    ) -> Result<(), Refusal>
         requires room { HasRoom self.old.state.volume p place value }
         requires none { IsTrue self.old.agreed →
             first_refusal self.old.state (edits.Set p (fields.Place place) value) ≡ None }
@@ -295,12 +313,13 @@ impl LiveVolume {
         ensures told { IsTrue (tells_record self.old.state.fields (offset_of place)
             place.kind.size) → (self.new.looks ≡ self.old.looks)
             × IfErr result (λ refusal. refusal ≡ no_memory) }
+        ensures memory { Rises (IsErrOf result Refusal.OutOfMemory) room.old room.new }
     {
         let mut buffer = [0u8; 8];
         let new = &mut buffer[..usize::from(place.kind.size)];
         write(self.overlay.head().order, place.kind, value, new);
         let known = self.held(p);
-        self.put(alloc, p, u64::from(place.offset()), new, Some(known))
+        self.put(room, p, u64::from(place.offset()), new, Some(known))
     }
 
     // The value into the field of the binary header, or the first refusal: E02, E03, E04, E06.
@@ -312,6 +331,7 @@ impl LiveVolume {
         ensures agreed { IsTrue self.new.agreed → IsTrue self.old.agreed }
         ensures loaded { self.new.loaded ≡ self.old.loaded }
         ensures looks { self.new.looks ≡ self.old.looks }
+        ensures other { IfErr result (λ refusal. refusal ≢ Refusal.OutOfMemory) }
     {
         let Some(place) = place_in_binary(field) else {
             return Err(Refusal::NoField);
@@ -350,6 +370,7 @@ impl LiveVolume {
         ensures agreed { IsTrue self.new.agreed → IsTrue self.old.agreed }
         ensures loaded { self.new.loaded ≡ self.old.loaded }
         ensures looks { self.new.looks ≡ self.old.looks }
+        ensures other { IfErr result (λ refusal. refusal ≢ Refusal.OutOfMemory) }
     {
         if !is_line(q) {
             return Err(Refusal::NoPlace);
@@ -360,7 +381,7 @@ impl LiveVolume {
     }
 
     // The name bound to the place of the field, or the first refusal: E02, E08.
-    fn bind(&mut self, alloc: Global, name: &Text, field: &Field) -> Result<(), Refusal>
+    fn bind(&mut self, room: &mut Room, name: &Text, field: &Field) -> Result<(), Refusal>
         ensures step { IsTrue self.new.agreed →
             Step self.old.state (edits.Map name.now field.now) result self.new.state }
         ensures err { OnErr result (self.new.state ≡ self.old.state) }
@@ -369,15 +390,16 @@ impl LiveVolume {
         ensures loaded { self.new.loaded ≡ self.old.loaded }
         ensures looks { RisesAtMost self.old.looks self.new.looks
             (edit_looks self.old.state (edits.Map name.now field.now)) }
+        ensures memory { Rises (IsErrOf result Refusal.OutOfMemory) room.old room.new }
     {
         match self.place_in_trace(field) {
-            Some(place) => self.bind_to(alloc, name, place),
+            Some(place) => self.bind_to(room, name, place),
             None => Err(Refusal::NoField),
         }
     }
 
     // The name bound to the place, or the first refusal.
-    fn bind_to(&mut self, alloc: Global, name: &Text, place: Place) -> Result<(), Refusal>
+    fn bind_to(&mut self, room: &mut Room, name: &Text, place: Place) -> Result<(), Refusal>
         ensures step { IsTrue self.new.agreed →
             Step self.old.state (edits.Map name.now (fields.Place place)) result self.new.state }
         ensures err { OnErr result (self.new.state ≡ self.old.state) }
@@ -386,11 +408,12 @@ impl LiveVolume {
         ensures loaded { self.new.loaded ≡ self.old.loaded }
         ensures looks { RisesAtMost self.old.looks self.new.looks
             (edit_looks self.old.state (edits.Map name.now (fields.Place place))) }
+        ensures memory { Rises (IsErrOf result Refusal.OutOfMemory) room.old room.new }
     {
         if is_geometry(name.as_str()) {
-            self.bind_geometry(alloc, name, place)
+            self.bind_geometry(room, name, place)
         } else {
-            self.bind_name(alloc, name, place)
+            self.bind_name(room, name, place)
         }
     }
 
@@ -398,7 +421,7 @@ impl LiveVolume {
     // record, and the reports are made anew beside the old ones; where that is refused, for want of
     // memory or because a trace could not be read, the records are as they were, and the name gets
     // its old place again, which takes no memory.
-    fn bind_geometry(&mut self, alloc: Global, name: &Text, place: Place) -> Result<(), Refusal>
+    fn bind_geometry(&mut self, room: &mut Room, name: &Text, place: Place) -> Result<(), Refusal>
         requires { is_geometry_name name.now ≡ true }
         ensures step { IsTrue self.new.agreed →
             Step self.old.state (edits.Map name.now (fields.Place place)) result self.new.state }
@@ -408,6 +431,7 @@ impl LiveVolume {
         ensures loaded { self.new.loaded ≡ self.old.loaded }
         ensures looks { RisesAtMost self.old.looks self.new.looks
             (count_of self.old.state.volume) }
+        ensures memory { Rises (IsErrOf result Refusal.OutOfMemory) room.old room.new }
     {
         let text = name.as_str();
         self.fields.geometry_stands();
@@ -418,7 +442,7 @@ impl LiveVolume {
             unreachable!()
         };
         self.fields.set_geometry(text, place);
-        match remake(alloc, &mut self.overlay, &self.fields) {
+        match remake(room, &mut self.overlay, &self.fields) {
             Ok(reports) => {
                 mem::replace(&mut self.reports, reports).close();
                 Ok(())
@@ -431,7 +455,7 @@ impl LiveVolume {
     }
 
     // Another name bound to the place, or the first refusal.
-    fn bind_name(&mut self, alloc: Global, name: &Text, place: Place) -> Result<(), Refusal>
+    fn bind_name(&mut self, room: &mut Room, name: &Text, place: Place) -> Result<(), Refusal>
         requires { is_geometry_name name.now ≡ false }
         ensures step { IsTrue self.new.agreed →
             Step self.old.state (edits.Map name.now (fields.Place place)) result self.new.state }
@@ -440,8 +464,9 @@ impl LiveVolume {
         ensures agreed { IsTrue self.new.agreed → IsTrue self.old.agreed }
         ensures loaded { self.new.loaded ≡ self.old.loaded }
         ensures looks { self.new.looks ≡ self.old.looks }
+        ensures memory { Rises (IsErrOf result Refusal.OutOfMemory) room.old room.new }
     {
-        self.fields.bind(alloc, name.as_str(), place)?;
+        self.fields.bind(room, name.as_str(), place)?;
         Ok(())
     }
 
@@ -454,6 +479,7 @@ impl LiveVolume {
         ensures agreed { IsTrue self.new.agreed → IsTrue self.old.agreed }
         ensures loaded { self.new.loaded ≡ self.old.loaded }
         ensures looks { self.new.looks ≡ self.old.looks }
+        ensures other { IfErr result (λ refusal. refusal ≢ Refusal.OutOfMemory) }
     {
         self.fields.unbind(name.as_str())?;
         Ok(())
@@ -462,57 +488,58 @@ impl LiveVolume {
     /// The answer to a query, which leaves the state as it is. Takes memory where the answer is a
     /// text or a list, and is refused for want of it, E11, only where nothing else refuses it. On
     /// disk a query that looks is also refused where a trace could not be read (E14, E15).
-    pub fn ask(&mut self, alloc: Global, query: &Query) -> Result<Answer, AskFault>
+    pub fn ask(&mut self, room: &mut Room, query: &Query) -> Result<Answer, AskFault>
         ensures reply { IsTrue self.new.agreed → IsReply self.old.state query.now result }
         ensures unchanged { self.new.state ≡ self.old.state }
         ensures agreed { IsTrue self.new.agreed → IsTrue self.old.agreed }
         ensures loaded { self.new.loaded ≡ self.old.loaded }
         ensures looks { RisesAtMost self.old.looks self.new.looks
             (query_looks self.old.state [] query.now) }
+        ensures memory { Rises (IsErrOf result AskFault.OutOfMemory) room.old room.new }
     {
         match query {
             Query::Count => Ok(count_answer(&self.overlay)),
             Query::Info => Ok(info_answer(&self.overlay, self.reading)),
             Query::Get(p, field) => get_answer(&mut self.overlay, &self.fields, *p, field),
             Query::GetBin(field) => get_bin_answer(&self.overlay, field),
-            Query::Line(b, q) => line_answer(alloc, &self.overlay, *b, *q),
+            Query::Line(b, q) => line_answer(room, &self.overlay, *b, *q),
             Query::Code(b) => code_answer(&self.overlay, *b),
-            Query::Stanzas => stanzas_answer(alloc, &self.overlay),
-            Query::Fields => fields_answer(alloc, &self.fields),
+            Query::Stanzas => stanzas_answer(room, &self.overlay),
+            Query::Fields => fields_answer(room, &self.fields),
             Query::Sample(p, k) => sample_answer(&mut self.overlay, *p, *k),
             Query::Geometry(p) => geometry_answer(self.record(*p), &self.overlay, *p),
             Query::Stat(p) => stat_answer(self.record(*p), &mut self.overlay, *p),
             Query::Fold(inline, crossline) => Ok(fold(self.grid(), *inline, *crossline)),
-            Query::Grid => cells(alloc, self.grid()),
-            Query::Inlines => inlines(alloc, self.grid()),
-            Query::Crosslines => crosslines(alloc, self.grid()),
-            Query::Histogram => histogram(alloc, self.grid()),
+            Query::Grid => cells(room, self.grid()),
+            Query::Inlines => inlines(room, self.grid()),
+            Query::Crosslines => crosslines(room, self.grid()),
+            Query::Histogram => histogram(room, self.grid()),
             Query::Range(quantity) => Ok(range(self.ranges(), *quantity)),
             Query::Totals => totals_answer(&self.overlay, self.reports.totals()),
-            Query::Slice(k) => slice_answer(alloc, &mut self.overlay, *k),
-            Query::Faults => faults_answer(alloc, &self.overlay, self.reports.triples()),
+            Query::Slice(k) => slice_answer(room, &mut self.overlay, *k),
+            Query::Faults => faults_answer(room, &self.overlay, self.reports.triples()),
             Query::Problems => {
                 let grid = self.reports.grid();
                 let triples = self.reports.triples();
                 let overlay = &mut self.overlay;
-                problems_answer(alloc, overlay, &self.fields, grid, triples)
+                problems_answer(room, overlay, &self.fields, grid, triples)
             }
-            Query::Survey => survey_answer(alloc, &self.overlay, self.reports.grid()),
-            Query::Lines(b) => lines_answer(alloc, &self.overlay, *b),
+            Query::Survey => survey_answer(room, &self.overlay, self.reports.grid()),
+            Query::Lines(b) => lines_answer(room, &self.overlay, *b),
             Query::Table(a, b, fields) => {
                 let overlay = &mut self.overlay;
-                table_answer(alloc, overlay, &self.fields, *a, *b, fields.as_slice())
+                table_answer(room, overlay, &self.fields, *a, *b, fields.as_slice())
             }
             Query::Find(a, b, field, low, high) => {
                 let overlay = &mut self.overlay;
-                found_answer(alloc, overlay, &self.fields, *a, *b, field, *low, *high)
+                found_answer(room, overlay, &self.fields, *a, *b, field, *low, *high)
             }
-            Query::Header(p) => header_answer(alloc, &mut self.overlay, &self.fields, *p),
+            Query::Header(p) => header_answer(room, &mut self.overlay, &self.fields, *p),
             Query::Extremes(a, b) => {
-                extremes_answer(alloc, &mut self.overlay, &self.fields, *a, *b)
+                extremes_answer(room, &mut self.overlay, &self.fields, *a, *b)
             }
             Query::OfChosen(chosen, query) => {
-                chosen_answer(alloc, &mut self.overlay, &self.fields, chosen, query)
+                chosen_answer(room, &mut self.overlay, &self.fields, chosen, query)
             }
         }
     }

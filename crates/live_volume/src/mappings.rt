@@ -1,5 +1,6 @@
 // The geometry names bound to several places at once.
-ghost use Rattle.std.specs.Prelude.{◌≡◌, ◌≤◌, ◌<◌, ◌^◌, ℕ, [], length, map, slice_index_or, IsTrue, IfOk, IfErr, OnOk, OnErr};
+ghost use Rattle.std.specs.Prelude.{◌≡◌, ◌≤◌, ◌<◌, ◌^◌, ℕ, [], length, map, slice_index_or, IsTrue, IfOk, IfErr, OnOk, OnErr, IsErrOf};
+ghost use Rattle.room.specs.Refusals.{Rises};
 ghost use Rattle.field_map.specs.Pairs.{rows_shown};
 ghost use Rattle.frame_cut.specs.Traces.{count_of};
 ghost use Rattle.frame_cut.specs.Volume.{bytes_of};
@@ -20,7 +21,7 @@ use bench_rules::{Mapping, Refusal, bindings};
 use edit_overlay::Overlay;
 use field_map::{FieldMap, Place};
 use live_reports::LiveReports;
-use std::alloc::Global;
+use room::Room;
 use std::mem;
 use trace_record::PackedRecord;
 use volume_records::{RecordsFault, remake};
@@ -29,7 +30,7 @@ impl LiveVolume {
     // The names of the mapping bound to its places, one after another: done whole, or refused, and
     // all is as it was. Each trace is looked at once for its new record. Refused for want of memory
     // (E11), or on disk where a trace could not be read (E14, E15).
-    pub(crate) fn map_as(&mut self, alloc: Global, mapping: Mapping) -> Result<(), Refusal>
+    pub(crate) fn map_as(&mut self, room: &mut Room, mapping: Mapping) -> Result<(), Refusal>
         ensures step { IsTrue self.new.agreed →
             Step self.old.state (edits.MapAs mapping) result self.new.state }
         ensures err { OnErr result (self.new.state ≡ self.old.state) }
@@ -38,10 +39,11 @@ impl LiveVolume {
         ensures loaded { self.new.loaded ≡ self.old.loaded }
         ensures looks { RisesAtMost self.old.looks self.new.looks
             (count_of self.old.state.volume) }
+        ensures memory { Rises (IsErrOf result Refusal.OutOfMemory) room.old room.new }
     {
         self.fields.geometry_stands();
         let names = bindings(mapping);
-        match remake_under(alloc, &mut self.overlay, &mut self.fields, names) {
+        match remake_under(room, &mut self.overlay, &mut self.fields, names) {
             Ok(reports) => {
                 mem::replace(&mut self.reports, reports).close();
                 Ok(())
@@ -55,7 +57,7 @@ impl LiveVolume {
 // made anew under them, and the reports of all. Where the records are refused, they are as they
 // were, and each name gets the place again that it had, which takes no memory.
 fn remake_under(
-    alloc: Global,
+    room: &mut Room,
     overlay: &mut Overlay<PackedRecord>,
     fields: &mut FieldMap,
     names: &[(&str, Place)],
@@ -86,16 +88,17 @@ fn remake_under(
     ensures loaded { overlay.new.loaded ≡ overlay.old.loaded }
     ensures looks { RisesAtMost overlay.old.looks overlay.new.looks (count_of overlay.old.volume) }
     ensures agreed { IsTrue overlay.new.agreed → IsTrue overlay.old.agreed }
+    ensures memory { Rises (IsErrOf result RecordsFault.OutOfMemory) room.old room.new }
 {
     let Some(((name, place), rest)) = names.split_first() else {
-        return remake(alloc, overlay, fields);
+        return remake(room, overlay, fields);
     };
     fields.geometry_stands();
     let Some(old) = fields.place(name) else {
         unreachable!()
     };
     fields.set_geometry(name, *place);
-    match remake_under(alloc, overlay, fields, rest) {
+    match remake_under(room, overlay, fields, rest) {
         Ok(reports) => Ok(reports),
         Err(fault) => {
             fields.set_geometry(name, old);

@@ -1,8 +1,9 @@
 // Another number of samples of a trace, a field of many traces counted up, and the places of
 // numbers that tell no length, over which a value is judged without a look.
-ghost use Rattle.std.specs.Prelude.{◌≡◌, ◌⊎◌, ◌+◌, ◌-◌, ◌≤◌, ◌<◌, ◌&&◌, false, ℕ, nat_abs, None, Some, IsTrue, IfOk, IfErr, OnOk, OnErr, if◌then◌else◌};
+ghost use Rattle.std.specs.Prelude.{◌≡◌, ◌≢◌, ◌⊎◌, ◌+◌, ◌-◌, ◌≤◌, ◌<◌, ◌&&◌, false, ℕ, nat_abs, None, Some, IsTrue, IfOk, IfErr, IfSome, OnOk, OnErr, if◌then◌else◌, IsErrOf};
 ghost use Rattle.std.specs.Bool.{OnTrue};
 ghost use Rattle.std.specs.Option.{option_or};
+ghost use Rattle.room.specs.Refusals.{Rises};
 ghost use Rattle.num_order.specs.Number.{IsSize, fits};
 ghost use Rattle.field_map.specs.Places.{offset_of};
 ghost use Rattle.frame_cut.specs.Traces.{count_of, is_trace, trace_at};
@@ -30,12 +31,12 @@ use bench_rules::{
 use edit_overlay::ReadFault;
 use field_map::Place;
 use num_order::{Kind, fits};
-use std::alloc::Global;
+use room::Room;
 use volume_records::record_of_bytes;
 
 impl LiveVolume {
     // Trace p with so many samples, or the first refusal: E01, E04, E06, E09.
-    pub(crate) fn resize(&mut self, alloc: Global, p: u32, count: i128) -> Result<(), Refusal>
+    pub(crate) fn resize(&mut self, room: &mut Room, p: u32, count: i128) -> Result<(), Refusal>
         ensures step { IsTrue self.new.agreed →
             Step self.old.state (edits.Resize p count) result self.new.state }
         ensures err { OnErr result (self.new.state ≡ self.old.state) }
@@ -44,16 +45,17 @@ impl LiveVolume {
         ensures loaded { self.new.loaded ≡ self.old.loaded }
         ensures looks { RisesAtMost self.old.looks self.new.looks
             (trace_looks self.old.state.volume p 2) }
+        ensures memory { Rises (IsErrOf result Refusal.OutOfMemory) room.old room.new }
     {
         let head = self.overlay.head();
-        let bytes = self.resized_bytes(alloc, p, count)?;
+        let bytes = self.resized_bytes(room, p, count)?;
         let trace = record_of_bytes(&head, bytes.as_slice(), &self.fields);
-        self.replace(alloc, p, bytes, &trace)
+        self.replace(room, p, bytes, &trace)
     }
 
     // The bytes of trace p with so many samples, or the first refusal, in one look: E01, E04, E06,
     // E09; else E11 alone.
-    fn resized_bytes(&mut self, alloc: Global, p: u32, count: i128) -> Result<Vec<u8>, Refusal>
+    fn resized_bytes(&mut self, room: &mut Room, p: u32, count: i128) -> Result<Vec<u8>, Refusal>
         ensures none { IfOk result (λ _. IsTrue self.new.agreed →
             first_refusal self.old.state (edits.Resize p count) ≡ None) }
         ensures bytes { IfOk result (λ bytes. IsTrue self.new.agreed → bytes.items ≡ bytes_resized
@@ -64,6 +66,7 @@ impl LiveVolume {
             ⊎ (IsTrue self.new.agreed → IsRefusalFor refusal
             (first_refusal self.old.state (edits.Resize p count)))) }
         ensures seen { OnlyLooks self.old self.new (trace_looks self.old.state.volume p 1) }
+        ensures memory { Rises (IsErrOf result Refusal.OutOfMemory) room.old room.new }
     {
         let length = self.overlay.length();
         let most = self.limits.bytes();
@@ -74,7 +77,7 @@ impl LiveVolume {
         if let Some(refusal) = count_refusal(&trace, length, most, count) {
             return Err(refusal);
         }
-        resized(alloc, &trace, count as u32)
+        resized(room, &trace, count as u32)
     }
 
     /// The field of traces a to b counted up from a first value by a step: done whole, and then
@@ -86,7 +89,7 @@ impl LiveVolume {
     /// that is looked at could not be read (E14, E15).
     pub fn renumber(
         &mut self,
-        alloc: Global,
+        room: &mut Room,
         a: u32,
         b: u32,
         field: &Field,
@@ -104,6 +107,7 @@ impl LiveVolume {
         ensures count { count_of self.new.state.volume ≡ count_of self.old.state.volume }
         ensures moved { IfOk result (λ moved. IsTrue self.new.agreed →
             moved ≡ any_moves self.old.state self.new.state a b) }
+        ensures memory { Rises (IsErrOf result Refusal.OutOfMemory) room.old room.new }
     {
         if let Some(refusal) = self.range_refusal(a, b) {
             return Err(refusal);
@@ -114,7 +118,7 @@ impl LiveVolume {
         if let Some(refusal) = self.values_refusal(a, b, place, first, step)? {
             return Err(refusal);
         }
-        self.count_up(alloc, a, b, place, first, step)
+        self.count_up(room, a, b, place, first, step)
     }
 
     // The first refusal of a range of traces: E01.
@@ -151,6 +155,8 @@ impl LiveVolume {
             IsTrue (fits place.kind (counted first step k))) }
         ensures seen { OnlyLooks self.old self.new
             (if leaves_length_of place then 0 else b + 1 - a) }
+        ensures other { IfOk result
+            (λ refusal. IfSome refusal (λ r. r ≢ Refusal.OutOfMemory)) }
         ensures read { IfErr result (λ _. IsTrue self.old.state.on_disk
             × (leaves_length_of place ≡ false)) }
     {
@@ -185,6 +191,7 @@ impl LiveVolume {
         ensures each { EachHolds self.now.state.volume a (b + 1 - a) place }
         ensures fit { result ≡ None → (k : ℕ) → k < b + 1 - a →
             IsTrue (fits place.kind (counted first step k)) }
+        ensures other { IfSome result (λ r. r ≢ Refusal.OutOfMemory) }
     {
         self.stands();
         if ends_fit(place.kind, first, step, b - a) {
@@ -213,6 +220,8 @@ impl LiveVolume {
         ensures fit { IfOk result (λ refusal. refusal ≡ None →
             IsTrue (fits place.kind (counted first step k))) }
         ensures seen { OnlyLooks self.old self.new 1 }
+        ensures other { IfOk result
+            (λ refusal. IfSome refusal (λ r. r ≢ Refusal.OutOfMemory)) }
         ensures read { IfErr result (λ _. IsTrue self.old.state.on_disk) }
     {
         let order = self.overlay.head().order;
@@ -227,7 +236,7 @@ impl LiveVolume {
     // trace has another inline or crossline then.
     fn count_up(
         &mut self,
-        alloc: Global,
+        room: &mut Room,
         a: u32,
         b: u32,
         place: Place,
@@ -256,13 +265,14 @@ impl LiveVolume {
         ensures count { count_of self.new.state.volume ≡ count_of self.old.state.volume }
         ensures moved { IfOk result (λ moved. IsTrue self.new.agreed →
             moved ≡ any_moves self.old.state self.new.state a b) }
+        ensures memory { Rises (IsErrOf result Refusal.OutOfMemory) room.old room.new }
     {
         let count = b - a + 1;
         let order = self.overlay.head().order;
-        let bytes = values_bytes(alloc, order, place.kind, first, step, count)?;
+        let bytes = values_bytes(room, order, place.kind, first, step, count)?;
         let at = u64::from(place.offset());
         self.put_each(
-            alloc,
+            room,
             a,
             count,
             at,

@@ -1,5 +1,6 @@
 // A volume whose bytes stay on disk.
-ghost use Rattle.std.specs.Prelude.{◌≡◌, ◌≤◌, true, length, IfErr, IfOk, IsTrue};
+ghost use Rattle.std.specs.Prelude.{◌≡◌, ◌≤◌, true, length, IfErr, IfOk, IsTrue, IsErrAnd};
+ghost use Rattle.room.specs.Refusals.{Rises};
 ghost use Rattle.field_map.specs.Binding.{geometry_at_load};
 ghost use Rattle.frame_cut.specs.Cuts.{IsCut};
 ghost use Rattle.frame_cut.specs.Volume.{bytes_of};
@@ -10,7 +11,7 @@ use crate::live_volume::LiveVolume;
 use edit_overlay::PassFault;
 use field_map::FieldMap;
 use frame_cut::{Limits, LoadFault, Reading};
-use std::alloc::Global;
+use room::Room;
 use std::fs::File;
 use volume_loading::Passing;
 use volume_records::with_records_on_disk;
@@ -22,7 +23,7 @@ impl LiveVolume {
     /// L02 to L15 or L17 for the first reason that every file with the bytes that were read and so
     /// many gives, L16 where a growth was refused.
     pub fn load_on_disk(
-        alloc: Global,
+        room: &mut Room,
         file: File,
         size: u64,
         reading: Reading,
@@ -40,13 +41,15 @@ impl LiveVolume {
         ensures agreed { IfOk result (λ b. IsTrue b.agreed) }
         ensures refused { IfErr result
             (λ refused. IsPassFault size reading limits refused.read refused.fault) }
+        ensures memory { Rises (IsErrAnd result (λ e. e.fault ≡
+            LoadFault.OutOfMemory)) room.old room.new }
     {
-        let passing = Passing::begin(alloc, file, size, reading, limits)?;
-        let fields = match FieldMap::standard(alloc, passing.head().extensions) {
+        let passing = Passing::begin(room, file, size, reading, limits)?;
+        let fields = match FieldMap::standard(room, passing.head().extensions) {
             Ok(fields) => fields,
             Err(_refused) => return Err(passing.refuse(LoadFault::OutOfMemory)),
         };
-        match with_records_on_disk(alloc, passing, &fields) {
+        match with_records_on_disk(room, passing, &fields) {
             Ok((overlay, reports)) => Ok(LiveVolume {
                 overlay,
                 fields,

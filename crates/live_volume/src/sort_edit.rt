@@ -1,5 +1,6 @@
 // Traces put in the order of numbers in their headers.
-ghost use Rattle.std.specs.Prelude.{◌≡◌, IsTrue, OnErr};
+ghost use Rattle.std.specs.Prelude.{◌≡◌, IsTrue, OnErr, IsErrOf};
+ghost use Rattle.room.specs.Refusals.{Rises};
 ghost use Rattle.frame_cut.specs.Traces.{count_of};
 ghost use Rattle.trace_store.specs.Swapped.{with_places_swapped, ArePlaces};
 ghost use Rattle.edit_overlay.specs.CountedVolume.{RisesAtMost};
@@ -11,7 +12,7 @@ ghost use Rattle.live_volume.specs.Held.{IsReadAs};
 use crate::live_volume::LiveVolume;
 use bench_rules::{Field, Refusal};
 use many_traces::exchanges_to_sort;
-use std::alloc::Global;
+use room::Room;
 
 impl LiveVolume {
     // Traces a to b in the order of the numbers of these fields, of which each falls or rises:
@@ -19,7 +20,7 @@ impl LiveVolume {
     // E02, E03; else E11 alone.
     pub(crate) fn sort(
         &mut self,
-        alloc: Global,
+        room: &mut Room,
         a: u32,
         b: u32,
         fields: &[Field],
@@ -33,13 +34,14 @@ impl LiveVolume {
         ensures loaded { self.new.loaded ≡ self.old.loaded }
         ensures looks { RisesAtMost self.old.looks self.new.looks
             (edit_looks self.old.state (edits.Sort a b fields.now falling.now)) }
+        ensures memory { Rises (IsErrOf result Refusal.OutOfMemory) room.old room.new }
     {
         if let Some(refusal) = self.range_refusal(a, b) {
             return Err(refusal);
         }
         self.stands();
         let overlay = &mut self.overlay;
-        let pairs = match exchanges_to_sort(alloc, overlay, &self.fields, a, b, fields, falling) {
+        let pairs = match exchanges_to_sort(room, overlay, &self.fields, a, b, fields, falling) {
             Ok(pairs) => pairs,
             Err(refusal) => return Err(refusal),
         };

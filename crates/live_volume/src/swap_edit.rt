@@ -1,5 +1,6 @@
 // Two fields of chosen traces in the place of one another.
-ghost use Rattle.std.specs.Prelude.{◌≡◌, ◌⊎◌, ◌*◌, ◌<◌, length, true, None, Some, is_some, IsTrue, IfOk, IfErr, OnOk, OnErr};
+ghost use Rattle.std.specs.Prelude.{◌≡◌, ◌⊎◌, ◌*◌, ◌<◌, length, true, None, Some, is_some, IsTrue, IfOk, IfErr, OnOk, OnErr, IsErrOf};
+ghost use Rattle.room.specs.Refusals.{Rises};
 ghost use Rattle.frame_cut.specs.Cuts.{IsCut};
 ghost use Rattle.frame_cut.specs.Traces.{count_of, trace_at};
 ghost use Rattle.edit_overlay.specs.CountedVolume.{RisesAtMost};
@@ -20,13 +21,13 @@ use bench_rules::{Field, Refusal};
 use chosen_traces::{exchanges_back, exchanges_to_front};
 use field_map::Place;
 use many_traces::{span, swapped_bytes};
-use std::alloc::Global;
+use room::Room;
 
 impl LiveVolume {
     // The numbers of the two fields of each of these traces in the place of one another.
     pub(crate) fn swap_each(
         &mut self,
-        alloc: Global,
+        room: &mut Room,
         traces: &[u32],
         first: &Field,
         second: &Field,
@@ -50,6 +51,7 @@ impl LiveVolume {
         ensures agreed { IsTrue self.new.agreed → IsTrue self.old.agreed }
         ensures loaded { self.new.loaded ≡ self.old.loaded }
         ensures looks { RisesAtMost self.old.looks self.new.looks (2 * length traces.now) }
+        ensures memory { Rises (IsErrOf result Refusal.OutOfMemory) room.old room.new }
     {
         self.stands();
         let Some(first) = self.place_in_trace(first) else {
@@ -58,18 +60,18 @@ impl LiveVolume {
         let Some(second) = self.place_in_trace(second) else {
             unreachable!()
         };
-        let bytes = match self.swapped(alloc, traces, first, second) {
+        let bytes = match self.swapped(room, traces, first, second) {
             Ok(bytes) => bytes,
             Err(refusal) => return Err(refusal),
         };
-        self.put_swapped(alloc, traces, first, second, bytes.as_slice())
+        self.put_swapped(room, traces, first, second, bytes.as_slice())
     }
 
     // The bytes of these traces where the two places lie together, with the numbers of the two in
     // the place of one another; or the first refusal: E03, E04, E06.
     fn swapped(
         &mut self,
-        alloc: Global,
+        room: &mut Room,
         traces: &[u32],
         first: Place,
         second: Place,
@@ -89,8 +91,9 @@ impl LiveVolume {
             (λ p. swap_refusal self.old.state.volume.head (first, second)
             (trace_at self.old.state.volume p)) traces.now ≡ Some refusal)) }
         ensures seen { OnlyLooks self.old self.new (length traces.now) }
+        ensures memory { Rises (IsErrOf result Refusal.OutOfMemory) room.old room.new }
     {
-        swapped_bytes(alloc, &mut self.overlay, traces, first, second)
+        swapped_bytes(room, &mut self.overlay, traces, first, second)
     }
 
     // Lays these bytes over the traces, which are brought to the front of the file for it, and
@@ -98,7 +101,7 @@ impl LiveVolume {
     // memory, or on disk where a trace could not be read.
     fn put_swapped(
         &mut self,
-        alloc: Global,
+        room: &mut Room,
         traces: &[u32],
         first: Place,
         second: Place,
@@ -122,16 +125,17 @@ impl LiveVolume {
         ensures agreed { IsTrue self.new.agreed → IsTrue self.old.agreed }
         ensures loaded { self.new.loaded ≡ self.old.loaded }
         ensures looks { RisesAtMost self.old.looks self.new.looks (length traces.now) }
+        ensures memory { Rises (IsErrOf result Refusal.OutOfMemory) room.old room.new }
     {
         self.stands();
 
         // Read for the proof alone, which learns that the traces are counted in 32 bits.
         let _count = self.count();
-        let forth = exchanges_to_front(alloc, traces)?;
-        let back = exchanges_back(alloc, traces)?;
+        let forth = exchanges_to_front(room, traces)?;
+        let back = exchanges_back(room, traces)?;
         let (at, size) = span(first, second);
         self.exchange_pairs(forth);
-        let done = self.put_each(alloc, 1, traces.len() as u32, u64::from(at), size, bytes);
+        let done = self.put_each(room, 1, traces.len() as u32, u64::from(at), size, bytes);
         self.exchange_pairs(back);
         match done {
             Ok(_) => Ok(()),

@@ -1,5 +1,6 @@
 // Edits of samples and of whole traces.
-ghost use Rattle.std.specs.Prelude.{◌≡◌, length, None, IsTrue, IfOk, OnOk, IfErr, OnErr};
+ghost use Rattle.std.specs.Prelude.{◌≡◌, length, None, IsTrue, IfOk, OnOk, IfErr, OnErr, IsErrOf, ◌≢◌};
+ghost use Rattle.room.specs.Refusals.{Rises};
 ghost use Rattle.frame_cut.specs.Cuts.{IsTrace};
 ghost use Rattle.frame_cut.specs.Traces.{is_trace, trace_at};
 ghost use Rattle.bench_rules.specs.declared.edit.Edit.TheVariants as edits;
@@ -16,7 +17,7 @@ ghost use Rattle.volume_answers.specs.Rooms.{HasSampleRoom};
 use crate::live_volume::LiveVolume;
 use bench_rules::{Refusal, blank_length, joined, samples_bytes, zeros};
 use record_table::Records;
-use std::alloc::Global;
+use room::Room;
 use volume_answers::{blank_refusal, copy_refusal, move_refusal, patch_place};
 use volume_records::record_of_bytes;
 
@@ -36,7 +37,7 @@ impl LiveVolume {
     // E05.
     pub(crate) fn patch(
         &mut self,
-        alloc: Global,
+        room: &mut Room,
         p: u32,
         k: u32,
         values: &[i128],
@@ -49,15 +50,16 @@ impl LiveVolume {
         ensures loaded { self.new.loaded ≡ self.old.loaded }
         ensures looks { RisesAtMost self.old.looks self.new.looks
             (trace_looks self.old.state.volume p 2) }
+        ensures memory { Rises (IsErrOf result Refusal.OutOfMemory) room.old room.new }
     {
         let at = patch_place(&mut self.overlay, p, k, values)?;
-        self.put_values(alloc, p, k, at, values)
+        self.put_values(room, p, k, at, values)
     }
 
     // The values over samples of trace p, where nothing but memory or a read refuses them.
     fn put_values(
         &mut self,
-        alloc: Global,
+        room: &mut Room,
         p: u32,
         k: u32,
         at: u64,
@@ -75,17 +77,18 @@ impl LiveVolume {
         ensures agreed { IsTrue self.new.agreed → IsTrue self.old.agreed }
         ensures loaded { self.new.loaded ≡ self.old.loaded }
         ensures looks { RisesAtMost self.old.looks self.new.looks 1 }
+        ensures memory { Rises (IsErrOf result Refusal.OutOfMemory) room.old room.new }
     {
         let head = self.overlay.head();
         let Some(format) = head.format.values() else {
             unreachable!()
         };
-        let bytes = samples_bytes(alloc, head.order, format, values)?;
-        self.put(alloc, p, at, bytes.as_slice(), None)
+        let bytes = samples_bytes(room, head.order, format, values)?;
+        self.put(room, p, at, bytes.as_slice(), None)
     }
 
     // A blank trace in front of trace p, or behind the last, or the first refusal: E01, E09, E10.
-    pub(crate) fn blank(&mut self, alloc: Global, p: u32) -> Result<(), Refusal>
+    pub(crate) fn blank(&mut self, room: &mut Room, p: u32) -> Result<(), Refusal>
         ensures step { IsTrue self.new.agreed →
             Step self.old.state (edits.Blank p) result self.new.state }
         ensures err { OnErr result (self.new.state ≡ self.old.state) }
@@ -93,15 +96,16 @@ impl LiveVolume {
         ensures agreed { IsTrue self.new.agreed → IsTrue self.old.agreed }
         ensures loaded { self.new.loaded ≡ self.old.loaded }
         ensures looks { self.new.looks ≡ self.old.looks }
+        ensures memory { Rises (IsErrOf result Refusal.OutOfMemory) room.old room.new }
     {
         match blank_refusal(&self.overlay, self.limits, p) {
             Some(refusal) => Err(refusal),
-            None => self.insert_blank(alloc, p),
+            None => self.insert_blank(room, p),
         }
     }
 
     // A blank trace in front of trace p, or behind the last, where nothing but memory refuses it.
-    fn insert_blank(&mut self, alloc: Global, p: u32) -> Result<(), Refusal>
+    fn insert_blank(&mut self, room: &mut Room, p: u32) -> Result<(), Refusal>
         requires { first_refusal self.old.state (edits.Blank p) ≡ None }
         ensures ok { OnOk result (IsTrue self.new.agreed →
             IsAfter self.old.state (edits.Blank p) self.new.state) }
@@ -111,16 +115,17 @@ impl LiveVolume {
         ensures agreed { IsTrue self.new.agreed → IsTrue self.old.agreed }
         ensures loaded { self.new.loaded ≡ self.old.loaded }
         ensures looks { self.new.looks ≡ self.old.looks }
+        ensures memory { Rises (IsErrOf result Refusal.OutOfMemory) room.old room.new }
     {
         let head = self.overlay.head();
-        let bytes = zeros(alloc, blank_length(&head) as usize)?;
+        let bytes = zeros(room, blank_length(&head) as usize)?;
         let trace = record_of_bytes(&head, bytes.as_slice(), &self.fields);
-        self.insert(alloc, p, bytes, &trace)
+        self.insert(room, p, bytes, &trace)
     }
 
     // A copy of trace q in front of trace p, or behind the last, or the first refusal: E01, E09,
     // E10.
-    pub(crate) fn copy(&mut self, alloc: Global, q: u32, p: u32) -> Result<(), Refusal>
+    pub(crate) fn copy(&mut self, room: &mut Room, q: u32, p: u32) -> Result<(), Refusal>
         ensures step { IsTrue self.new.agreed →
             Step self.old.state (edits.Copy q p) result self.new.state }
         ensures err { OnErr result (self.new.state ≡ self.old.state) }
@@ -129,15 +134,16 @@ impl LiveVolume {
         ensures loaded { self.new.loaded ≡ self.old.loaded }
         ensures looks { RisesAtMost self.old.looks self.new.looks
             (trace_looks self.old.state.volume q 2) }
+        ensures memory { Rises (IsErrOf result Refusal.OutOfMemory) room.old room.new }
     {
         match copy_refusal(&mut self.overlay, self.limits, q, p)? {
             Some(refusal) => Err(refusal),
-            None => self.insert_copy(alloc, q, p),
+            None => self.insert_copy(room, q, p),
         }
     }
 
     // The bytes of trace q, in one vector.
-    fn trace_bytes(&mut self, alloc: Global, q: u32) -> Result<Vec<u8>, Refusal>
+    fn trace_bytes(&mut self, room: &mut Room, q: u32) -> Result<Vec<u8>, Refusal>
         requires { IsTrue (is_trace self.old.state.volume q) }
         ensures ok { IfOk result (λ bytes. IsTrue self.new.agreed →
             bytes.items ≡ trace_at self.old.state.volume q) }
@@ -146,16 +152,17 @@ impl LiveVolume {
             length bytes.items ≡ length (trace_at self.old.state.volume q)) }
         ensures err { IfErr result (λ refusal. IsOfMachine self.old.state.on_disk refusal) }
         ensures seen { OnlyLooks self.old self.new 1 }
+        ensures memory { Rises (IsErrOf result Refusal.OutOfMemory) room.old room.new }
     {
         let Some(trace) = self.overlay.look(q)? else {
             unreachable!()
         };
-        joined(alloc, &trace)
+        joined(room, &trace)
     }
 
     // A copy of trace q in front of trace p, or behind the last, where nothing but memory or a read
     // refuses it.
-    fn insert_copy(&mut self, alloc: Global, q: u32, p: u32) -> Result<(), Refusal>
+    fn insert_copy(&mut self, room: &mut Room, q: u32, p: u32) -> Result<(), Refusal>
         requires { first_refusal self.old.state (edits.Copy q p) ≡ None }
         ensures ok { OnOk result (IsTrue self.new.agreed →
             IsAfter self.old.state (edits.Copy q p) self.new.state) }
@@ -165,10 +172,11 @@ impl LiveVolume {
         ensures agreed { IsTrue self.new.agreed → IsTrue self.old.agreed }
         ensures loaded { self.new.loaded ≡ self.old.loaded }
         ensures looks { RisesAtMost self.old.looks self.new.looks 1 }
+        ensures memory { Rises (IsErrOf result Refusal.OutOfMemory) room.old room.new }
     {
         let trace = self.overlay.payload(q).record();
-        let bytes = self.trace_bytes(alloc, q)?;
-        self.insert(alloc, p, bytes, &trace)
+        let bytes = self.trace_bytes(room, q)?;
+        self.insert(room, p, bytes, &trace)
     }
 
     // Trace p out, or the refusal: E01.
@@ -180,6 +188,7 @@ impl LiveVolume {
         ensures agreed { IsTrue self.new.agreed → IsTrue self.old.agreed }
         ensures loaded { self.new.loaded ≡ self.old.loaded }
         ensures looks { self.new.looks ≡ self.old.looks }
+        ensures other { IfErr result (λ refusal. refusal ≢ Refusal.OutOfMemory) }
     {
         match self.no_trace(p) {
             Some(refusal) => Err(refusal),
@@ -208,7 +217,7 @@ impl LiveVolume {
     }
 
     // Trace a as trace b, or the first refusal: E01.
-    pub(crate) fn move_trace(&mut self, alloc: Global, a: u32, b: u32) -> Result<(), Refusal>
+    pub(crate) fn move_trace(&mut self, room: &mut Room, a: u32, b: u32) -> Result<(), Refusal>
         ensures step { IsTrue self.new.agreed →
             Step self.old.state (edits.Move a b) result self.new.state }
         ensures err { OnErr result (self.new.state ≡ self.old.state) }
@@ -216,15 +225,16 @@ impl LiveVolume {
         ensures agreed { IsTrue self.new.agreed → IsTrue self.old.agreed }
         ensures loaded { self.new.loaded ≡ self.old.loaded }
         ensures looks { self.new.looks ≡ self.old.looks }
+        ensures memory { Rises (IsErrOf result Refusal.OutOfMemory) room.old room.new }
     {
         match move_refusal(&self.overlay, a, b) {
             Some(refusal) => Err(refusal),
-            None => self.put_elsewhere(alloc, a, b),
+            None => self.put_elsewhere(room, a, b),
         }
     }
 
     // Trace a as trace b, where nothing but memory refuses it.
-    fn put_elsewhere(&mut self, alloc: Global, a: u32, b: u32) -> Result<(), Refusal>
+    fn put_elsewhere(&mut self, room: &mut Room, a: u32, b: u32) -> Result<(), Refusal>
         requires { first_refusal self.old.state (edits.Move a b) ≡ None }
         ensures ok { OnOk result (IsTrue self.new.agreed →
             IsAfter self.old.state (edits.Move a b) self.new.state) }
@@ -234,8 +244,9 @@ impl LiveVolume {
         ensures agreed { IsTrue self.new.agreed → IsTrue self.old.agreed }
         ensures loaded { self.new.loaded ≡ self.old.loaded }
         ensures looks { self.new.looks ≡ self.old.looks }
+        ensures memory { Rises (IsErrOf result Refusal.OutOfMemory) room.old room.new }
     {
-        self.overlay.move_to(alloc, a, b)?;
+        self.overlay.move_to(room, a, b)?;
         Ok(())
     }
 }

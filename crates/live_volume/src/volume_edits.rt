@@ -1,7 +1,8 @@
 // Changes of the volume and of the reports that hold the records of its traces: of both, or of
 // neither where memory or a read of a trace is refused. What can be refused comes first, and what
 // is done then takes no memory and reads no trace.
-ghost use Rattle.std.specs.Prelude.{◌≡◌, ◌+◌, ◌-◌, ◌≤◌, ◌<◌, ◌/◌, ◌%◌, [], length, slice_index_or, ℕ, IsTrue, IsSome, IfSome, IfOk, OnOk, IfErr};
+ghost use Rattle.std.specs.Prelude.{◌≡◌, ◌+◌, ◌-◌, ◌≤◌, ◌<◌, ◌/◌, ◌%◌, [], length, slice_index_or, ℕ, IsTrue, IsSome, IfSome, IfOk, OnOk, IfErr, IsErrOf};
+ghost use Rattle.room.specs.Refusals.{Rises};
 ghost use Rattle.frame_cut.specs.Cuts.{IsTrace};
 ghost use Rattle.frame_cut.specs.Parts.{with_each, with_inserted};
 ghost use Rattle.frame_cut.specs.Splice.{splice};
@@ -22,7 +23,7 @@ use crate::live_volume::LiveVolume;
 use bench_rules::Refusal;
 use live_reports::same_cells;
 use record_table::Records;
-use std::alloc::Global;
+use room::Room;
 use trace_record::{PackedRecord, Record};
 use volume_records::{
     RecordsFault, commit_with_record, commit_with_records, prepared_records, record_after,
@@ -48,7 +49,7 @@ impl LiveVolume {
     // looked at could not be read.
     pub(crate) fn put(
         &mut self,
-        alloc: Global,
+        room: &mut Room,
         p: u32,
         at: u64,
         bytes: &[u8],
@@ -81,12 +82,13 @@ impl LiveVolume {
         ensures told { IsSome known →
             IsTrue (tells_record self.old.state.fields at (length bytes.now)) →
             (self.new.looks ≡ self.old.looks) × IfErr result (λ refusal. refusal ≡ no_memory) }
+        ensures memory { Rises (IsErrOf result Refusal.OutOfMemory) room.old room.new }
     {
-        self.overlay.prepare_put(alloc, p, at, bytes)?;
+        self.overlay.prepare_put(room, p, at, bytes)?;
         match record_after(&mut self.overlay, &self.fields, p, at, bytes, known) {
             Ok(record) => {
                 let overlay = &mut self.overlay;
-                let Ok(()) = commit_with_record(overlay, &mut self.reports, p, &record) else {
+                let Ok(()) = commit_with_record(room, overlay, &mut self.reports, p, &record) else {
                     return Err(Refusal::OutOfMemory);
                 };
                 Ok(())
@@ -101,7 +103,7 @@ impl LiveVolume {
     // Puts a new trace of these bytes, with this record, in front of trace p, or behind the last.
     pub(crate) fn insert(
         &mut self,
-        alloc: Global,
+        room: &mut Room,
         p: u32,
         bytes: Vec<u8>,
         trace: &Record,
@@ -124,17 +126,18 @@ impl LiveVolume {
         ensures agreed { IsTrue self.new.agreed → IsTrue self.old.agreed }
         ensures loaded { self.new.loaded ≡ self.old.loaded }
         ensures looks { self.new.looks ≡ self.old.looks }
+        ensures memory { Rises (IsErrOf result Refusal.OutOfMemory) room.old room.new }
     {
         let place = p as usize - 1;
         let Ok(()) = self
             .reports
-            .insert(&Records::new(self.overlay.payloads()), place, trace)
+            .insert(room, &Records::new(self.overlay.payloads()), place, trace)
         else {
             return Err(Refusal::OutOfMemory);
         };
         match self
             .overlay
-            .insert(alloc, p, bytes, PackedRecord::of(*trace))
+            .insert(room, p, bytes, PackedRecord::of(*trace))
         {
             Ok(()) => Ok(()),
             Err(_) => {
@@ -149,7 +152,7 @@ impl LiveVolume {
     // alone.
     pub(crate) fn replace(
         &mut self,
-        alloc: Global,
+        room: &mut Room,
         p: u32,
         bytes: Vec<u8>,
         trace: &Record,
@@ -167,12 +170,13 @@ impl LiveVolume {
         ensures agreed { IsTrue self.new.agreed → IsTrue self.old.agreed }
         ensures loaded { self.new.loaded ≡ self.old.loaded }
         ensures looks { self.new.looks ≡ self.old.looks }
+        ensures memory { Rises (IsErrOf result Refusal.OutOfMemory) room.old room.new }
     {
         let place = p as usize - 1;
-        let bytes = boxed(alloc, bytes)?;
+        let bytes = boxed(room, bytes)?;
         let Ok(()) = self
             .reports
-            .exchange(&Records::new(self.overlay.payloads()), place, trace)
+            .exchange(room, &Records::new(self.overlay.payloads()), place, trace)
         else {
             return Err(Refusal::OutOfMemory);
         };
@@ -187,7 +191,7 @@ impl LiveVolume {
     // memory, or on disk where a trace that is looked at could not be read.
     pub(crate) fn put_each(
         &mut self,
-        alloc: Global,
+        room: &mut Room,
         a: u32,
         count: u32,
         at: u64,
@@ -218,17 +222,18 @@ impl LiveVolume {
         ensures looks { RisesAtMost self.old.looks self.new.looks count }
         ensures told { IsTrue (tells_record self.old.state.fields at size) →
             (self.new.looks ≡ self.old.looks) × IfErr result (λ refusal. refusal ≡ no_memory) }
+        ensures memory { Rises (IsErrOf result Refusal.OutOfMemory) room.old room.new }
     {
-        self.overlay.prepare_put_each(alloc, a, at, size, bytes)?;
+        self.overlay.prepare_put_each(room, a, at, size, bytes)?;
         let overlay = &mut self.overlay;
-        match prepared_records(alloc, overlay, &self.fields, a, count, at, size, bytes) {
+        match prepared_records(room, overlay, &self.fields, a, count, at, size, bytes) {
             Ok(records) => {
                 let stays = same_cells(
                     &Records::new(self.overlay.payloads()),
                     a as usize - 1,
                     &records,
                 );
-                match commit_with_records(&mut self.overlay, &mut self.reports, a, &records) {
+                match commit_with_records(room, &mut self.overlay, &mut self.reports, a, &records) {
                     Ok(()) => Ok(!stays),
                     Err(_) => Err(Refusal::OutOfMemory),
                 }
@@ -252,11 +257,12 @@ pub(crate) fn refusal_of_records(fault: RecordsFault) -> Refusal
 }
 
 // The bytes in a box, as the table of traces holds them. Takes memory.
-fn boxed(alloc: Global, bytes: Vec<u8>) -> Result<Box<Vec<u8>>, Refusal>
+fn boxed(room: &mut Room, bytes: Vec<u8>) -> Result<Box<Vec<u8>>, Refusal>
     ensures bytes { IfOk result (λ boxed. boxed.value ≡ bytes) }
     ensures err { IfErr result (λ refusal. refusal ≡ no_memory) }
+    ensures memory { Rises (IsErrOf result Refusal.OutOfMemory) room.old room.new }
 {
-    match Box::new(alloc, bytes) {
+    match room.told_back(Box::new(room.alloc(), bytes)) {
         Ok(boxed) => Ok(boxed),
         Err(_) => Err(Refusal::OutOfMemory),
     }

@@ -1,5 +1,6 @@
 // The answer to a query for some fields of a range of traces.
-ghost use Rattle.std.specs.Prelude.{◌≡◌, IsTrue};
+ghost use Rattle.std.specs.Prelude.{◌≡◌, IsTrue, IsErrOf};
+ghost use Rattle.room.specs.Refusals.{Rises};
 ghost use Rattle.edit_overlay.specs.CountedVolume.{IsSeen};
 ghost use Rattle.bench_rules.specs.declared.query.Query.TheVariants as queries;
 ghost use Rattle.bench_rules.specs.Answer.{IsReply};
@@ -12,14 +13,14 @@ use crate::tables::table;
 use bench_rules::{Answer, AskFault, Field, range_fault};
 use edit_overlay::Overlay;
 use field_map::FieldMap;
-use std::alloc::Global;
+use room::Room;
 use trace_record::PackedRecord;
 
 /// These fields of each of traces a to b. Looks at each of them once at most, and at none where a
 /// or b is refused or a field has no place. Takes memory. Refused: E01, E02, E03, else E11 alone.
 /// On disk also where a trace could not be read (E14, E15).
 pub fn table_answer(
-    alloc: Global,
+    room: &mut Room,
     overlay: &mut Overlay<PackedRecord>,
     map: &FieldMap,
     a: u32,
@@ -32,11 +33,12 @@ pub fn table_answer(
     ensures seen { IsSeen overlay.old overlay.new
         (looks_at (each_of (place_of_field map.now.pairs) fields.now)
         (range_looks overlay.old.volume a b)) }
+    ensures memory { Rises (IsErrOf result AskFault.OutOfMemory) room.old room.new }
 {
     if let Some(fault) = range_fault(overlay, a, b) {
         return Err(fault);
     }
-    let rows = match table(alloc, overlay, map, a, b, fields) {
+    let rows = match table(room, overlay, map, a, b, fields) {
         Ok(rows) => rows,
         Err(fault) => return Err(fault),
     };

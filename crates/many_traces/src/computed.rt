@@ -1,6 +1,7 @@
 // A number computed for each of many traces.
-ghost use Rattle.std.specs.Prelude.{◌≡◌, ◌+◌, ◌-◌, ◌*◌, ◌<◌, ◌≤◌, ℕ, [], ◌++◌, ◌⊎◌, None, Some, Ok, IsTrue, IfOk, IfErr, OnOk, List, length};
+ghost use Rattle.std.specs.Prelude.{◌≡◌, ◌+◌, ◌-◌, ◌*◌, ◌<◌, ◌≤◌, ℕ, [], ◌++◌, ◌⊎◌, None, Some, Ok, IsTrue, IfOk, IfErr, OnOk, List, length, IsErrOf, ◌≢◌};
 ghost use Rattle.std.specs.Vec.{vec_len, vec_capacity};
+ghost use Rattle.room.specs.Refusals.{Rises};
 ghost use Rattle.num_order.specs.Number.{IsSize, InRange, bytes as bytes_of_number};
 ghost use Rattle.frame_cut.specs.Traces.{count_of, is_trace, trace_at};
 ghost use Rattle.edit_overlay.specs.CountedVolume.{IsSeen};
@@ -17,7 +18,7 @@ use bench_rules::{Operand, Operator, Refusal, Term, admitted, computed_in, term_
 use edit_overlay::{Overlay, ReadFault};
 use field_map::{FieldMap, Place};
 use num_order::{Kind, Order, write};
-use std::alloc::Global;
+use room::Room;
 use trace_record::PackedRecord;
 
 /// The bytes of the numbers that are computed for traces a to b over this place, one after another:
@@ -27,7 +28,7 @@ use trace_record::PackedRecord;
 /// lowest trace that has one, E03, E13, E04 or E06; else E11 alone. On disk also where a trace
 /// could not be read (E14, E15).
 pub fn computed_bytes(
-    alloc: Global,
+    room: &mut Room,
     overlay: &mut Overlay<PackedRecord>,
     map: &FieldMap,
     a: u32,
@@ -54,6 +55,7 @@ pub fn computed_bytes(
         (formula_at map.now.pairs place source.now steps.now) a b))) }
     ensures seen { IsSeen overlay.old overlay.new
         (looks_at (formula_at map.now.pairs place source.now steps.now) (b + 1 - a)) }
+    ensures memory { Rises (IsErrOf result Refusal.OutOfMemory) room.old room.new }
 {
     let Some(source) = term_of(map, source) else {
         return Err(Refusal::NoField);
@@ -62,11 +64,11 @@ pub fn computed_bytes(
         return Err(Refusal::NoField);
     }
     // Where there is no memory, the traces are judged all the same: E11 comes behind all else.
-    let Some(terms) = terms_of(alloc, map, steps) else {
+    let Some(terms) = terms_of(room, map, steps) else {
         return Err(without_memory(overlay, map, a, b, place, source, steps)?);
     };
-    let room = usize::from(place.kind.size) * (b - a + 1) as usize;
-    match Vec::with_capacity(alloc, room) {
+    let size = usize::from(place.kind.size) * (b - a + 1) as usize;
+    match room.told(Vec::with_capacity(room.alloc(), size)) {
         Ok(bytes) => filled(overlay, a, b, place, source, terms.as_slice(), bytes),
         Err(_) => Err(without_memory(overlay, map, a, b, place, source, steps)?),
     }
@@ -102,6 +104,7 @@ fn filled(
         (IsTrue overlay.new.agreed → compute_refusal_in overlay.old.volume
         (Some (record { place = place; source = source; steps = steps.now })) a b
         ≡ Some refusal)) }
+    ensures other { IfErr result (λ refusal. refusal ≢ Refusal.OutOfMemory) }
     ensures seen { IsSeen overlay.old overlay.new (b + 1 - a) }
 {
     let order = overlay.head().order;
@@ -134,6 +137,7 @@ fn number_at(
     ensures err { IfErr result (λ refusal. IsReadRefusal overlay.old.loaded.on_disk refusal ⊎
         (IsTrue overlay.new.agreed → compute_refusal overlay.old.volume
         (record { place = place; source = source; steps = steps.now }) p ≡ Some refusal)) }
+    ensures other { IfErr result (λ refusal. refusal ≢ Refusal.OutOfMemory) }
     ensures seen { IsSeen overlay.old overlay.new 1 }
 {
     let order = overlay.head().order;

@@ -1,5 +1,6 @@
 // Where a range of samples begins in each of many traces.
-ghost use Rattle.std.specs.Prelude.{◌≡◌, ◌⊎◌, ◌+◌, ◌-◌, ◌*◌, ◌≤◌, length, None, Some, IsTrue, IfOk, IfErr, OnOk};
+ghost use Rattle.std.specs.Prelude.{◌≡◌, ◌⊎◌, ◌+◌, ◌-◌, ◌*◌, ◌≤◌, length, None, Some, IsTrue, IfOk, IfErr, OnOk, IsErrOf, ◌≢◌};
+ghost use Rattle.room.specs.Refusals.{Rises};
 ghost use Rattle.sample_codes.specs.Formats.{width};
 ghost use Rattle.frame_cut.specs.Traces.{count_of, is_trace, trace_at};
 ghost use Rattle.trace_view.specs.Shown.{bytes_of, head_of};
@@ -14,8 +15,8 @@ ghost use Rattle.many_traces.specs.SamplePlaces.{AreSamplePlaces, HaveSampleRoom
 
 use bench_rules::{Refusal, sample_place, samples_refusal};
 use edit_overlay::{Overlay, ReadFault};
+use room::Room;
 use sample_codes::Format;
-use std::alloc::Global;
 use trace_record::PackedRecord;
 use trace_view::TraceView;
 
@@ -25,7 +26,7 @@ use trace_view::TraceView;
 /// of the samples `first` and `last`; E11 may come in its place. On disk also where a trace could
 /// not be read (E14, E15).
 pub fn sample_places(
-    alloc: Global,
+    room: &mut Room,
     overlay: &mut Overlay<PackedRecord>,
     traces: &[u32],
     first: u32,
@@ -45,11 +46,12 @@ pub fn sample_places(
         (λ p. refusal_of_samples overlay.old.volume.head first last
         (trace_at overlay.old.volume p)) traces.now ≡ Some refusal)) }
     ensures seen { IsSeen overlay.old overlay.new (length traces.now) }
+    ensures memory { Rises (IsErrOf result Refusal.OutOfMemory) room.old room.new }
 {
-    let mut places = Vec::with_capacity(alloc, traces.len())?;
+    let mut places = room.told(Vec::with_capacity(room.alloc(), traces.len()))?;
     for k in 0..traces.len() {
         match place_at(overlay, traces[k], first, last)? {
-            Ok(place) => places.push(place)?,
+            Ok(place) => room.told_back(places.push(place))?,
             Err(refusal) => return Err(refusal),
         }
     }
@@ -75,6 +77,8 @@ fn place_at(
     ensures refused { IfOk result (λ found. IfErr found (λ refusal. IsTrue overlay.new.agreed →
         refusal_of_samples overlay.old.volume.head first last (trace_at overlay.old.volume p)
         ≡ Some refusal)) }
+    ensures other { IfOk result (λ found. IfErr found (λ refusal.
+        refusal ≢ Refusal.OutOfMemory)) }
     ensures seen { IsSeen overlay.old overlay.new 1 }
     ensures read { IfErr result (λ _. IsTrue overlay.old.loaded.on_disk) }
 {

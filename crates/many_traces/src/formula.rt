@@ -1,5 +1,6 @@
 // A computation whose fields are found by name.
-ghost use Rattle.std.specs.Prelude.{◌≡◌, Some, is_some, IfSome};
+ghost use Rattle.std.specs.Prelude.{◌≡◌, Some, is_some, IfSome, IsNone, IsSome};
+ghost use Rattle.room.specs.Refusals.{Rises};
 ghost use Rattle.trace_view.specs.Shown.{bytes_of, head_of};
 ghost use Rattle.bench_rules.specs.Computed.{chained_from, steps_of};
 ghost use Rattle.bench_rules.specs.ManyTraces.{each_of};
@@ -7,7 +8,7 @@ ghost use Rattle.many_traces.specs.Formulas.{named_number_in, step_in};
 
 use bench_rules::{Operand, Operator, Refusal, Term, after_step, term_in, term_of};
 use field_map::{FieldMap, Place};
-use std::alloc::Global;
+use room::Room;
 use trace_view::TraceView;
 
 /// Whether each field of the steps has a place. Takes no memory.
@@ -23,22 +24,24 @@ pub fn have_terms(map: &FieldMap, steps: &[(Operator, Operand)]) -> bool
 }
 
 /// The steps with the places of their fields; `None` where one has none, or where there is no
-/// memory for the list.
+/// memory for the list: only where a growth was refused in this call, if each has a place.
 pub fn terms_of(
-    alloc: Global,
+    room: &mut Room,
     map: &FieldMap,
     steps: &[(Operator, Operand)],
 ) -> Option<Vec<(Operator, Term)>>
-    ensures { IfSome result (λ terms. steps_of map.now.pairs steps.now ≡ Some terms.items) }
+    ensures terms { IfSome result (λ terms. steps_of map.now.pairs steps.now ≡ Some terms.items) }
+    ensures memory { Rises (IsNone result × IsSome (steps_of map.now.pairs steps.now)) room.old
+        room.new }
 {
-    let Ok(mut terms) = Vec::with_capacity(alloc, steps.len()) else {
+    let Ok(mut terms) = room.told(Vec::with_capacity(room.alloc(), steps.len())) else {
         return None;
     };
     for step in steps {
         let term = term_of(map, &step.1)?;
-        if terms.push((step.0, term)).is_err() {
+        let Ok(()) = room.told_back(terms.push((step.0, term))) else {
             return None;
-        }
+        };
     }
     Some(terms)
 }

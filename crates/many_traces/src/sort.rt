@@ -1,5 +1,6 @@
 // The exchanges of traces that put them in the order of their numbers.
-ghost use Rattle.std.specs.Prelude.{◌≡◌, ℕ, ◌+◌, ◌-◌, ◌<◌, ◌≤◌, ◌^◌, ◌⊎◌, length, All, IsTrue, IfOk, IfErr};
+ghost use Rattle.std.specs.Prelude.{◌≡◌, ℕ, ◌+◌, ◌-◌, ◌<◌, ◌≤◌, ◌^◌, ◌⊎◌, length, All, IsTrue, IfOk, IfErr, IsErrOf};
+ghost use Rattle.room.specs.Refusals.{Rises};
 ghost use Rattle.frame_cut.specs.Traces.{count_of};
 ghost use Rattle.edit_overlay.specs.CountedVolume.{IsSeen};
 ghost use Rattle.bench_rules.specs.declared.refusal.Refusal.TheVariants.{OutOfMemory as no_memory};
@@ -19,7 +20,7 @@ use crate::tables::table;
 use bench_rules::{AskFault, Field, Refusal, Table};
 use edit_overlay::Overlay;
 use field_map::FieldMap;
-use std::alloc::Global;
+use room::Room;
 use trace_record::PackedRecord;
 
 /// The pairs of traces that put traces a to b in the order of the numbers of these fields, where
@@ -29,7 +30,7 @@ use trace_record::PackedRecord;
 /// order. Refused, in this order: E02, E03 where one of the traces lacks a place; else E11 alone.
 /// On disk also where a trace could not be read (E14, E15).
 pub fn exchanges_to_sort(
-    alloc: Global,
+    room: &mut Room,
     overlay: &mut Overlay<PackedRecord>,
     map: &FieldMap,
     a: u32,
@@ -49,9 +50,10 @@ pub fn exchanges_to_sort(
         (each_of (place_in_trace map.now.pairs) fields.now)))) }
     ensures seen { IsSeen overlay.old overlay.new
         (looks_at (each_of (place_in_trace map.now.pairs) fields.now) (b + 1 - a)) }
+    ensures memory { Rises (IsErrOf result Refusal.OutOfMemory) room.old room.new }
 {
-    match table(alloc, overlay, map, a, b, fields) {
-        Ok(table) => exchanges_of(alloc, a, &table, falling),
+    match table(room, overlay, map, a, b, fields) {
+        Ok(table) => exchanges_of(room, a, &table, falling),
         Err(fault) => Err(refusal_for(fault)),
     }
 }
@@ -67,13 +69,15 @@ pub fn refusal_for(fault: AskFault) -> Refusal
         AskFault::NoValues => Refusal::NoValues,
         AskFault::ReadFailed => Refusal::ReadFailed,
         AskFault::FileChanged => Refusal::FileChanged,
-        _ => Refusal::OutOfMemory,
+        AskFault::NoTrace(p, count) => Refusal::NoTrace(p, count),
+        AskFault::NoSample(k, count) => Refusal::NoSample(k, count),
+        AskFault::OutOfMemory => Refusal::OutOfMemory,
     }
 }
 
 // The pairs of traces that put those of the table's rows, which are of one length, in order.
 fn exchanges_of(
-    alloc: Global,
+    room: &mut Room,
     first: u32,
     table: &Table,
     falling: &[bool],
@@ -83,7 +87,8 @@ fn exchanges_of(
     requires last { first + length table.now ≤ 2 ^ 32 }
     ensures ok { IfOk result (λ pairs. PutsRows first table.now falling.now pairs.items) }
     ensures err { IfErr result (λ refusal. refusal ≡ no_memory) }
+    ensures memory { Rises (IsErrOf result Refusal.OutOfMemory) room.old room.new }
 {
-    let rows = rows_in_order(alloc, table, falling)?;
-    Ok(exchanges(alloc, first, rows.as_slice())?)
+    let rows = rows_in_order(room, table, falling)?;
+    Ok(exchanges(room, first, rows.as_slice())?)
 }

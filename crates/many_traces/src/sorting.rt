@@ -1,37 +1,46 @@
 // The rows of a table in order.
-ghost use Rattle.std.specs.Prelude.{◌≡◌, ◌≢◌, ℕ, length, map, All, IfOk};
+ghost use Rattle.std.specs.Prelude.{◌≡◌, ◌≢◌, ℕ, length, map, All, IfOk, IsErr};
 ghost use Rattle.std.specs.List.{range_with_len};
 ghost use Rattle.std.specs.List.Sorted.{IsPermutation};
 ghost use Rattle.std.specs.Ordering.{is_lt};
+ghost use Rattle.room.specs.Refusals.{Rises};
 ghost use Rattle.bench_rules.specs.Sorted.{are_in_front, in_order, is_in_front};
 ghost use Rattle.many_traces.specs.Arranged.{row_near};
 
 use bench_rules::Table;
-use std::alloc::{AllocError, Global};
+use room::{OutOfMemory, Room};
 use std::cmp::Ordering;
 
 /// The rows of the table, each by its number, counted from 0, in the order of their numbers; rows
 /// with the same numbers stand as they stood. Of the numbers of a row those fall whose item of
 /// `falling` is true. All rows are of one length. Refused for want of memory alone.
-pub fn rows_in_order(alloc: Global, table: &Table, falling: &[bool]) -> Result<Vec<u32>, AllocError>
+pub fn rows_in_order(
+    room: &mut Room,
+    table: &Table,
+    falling: &[bool],
+) -> Result<Vec<u32>, OutOfMemory>
     requires { (width : ℕ) × All (λ row. length row.1 ≡ width) table.now }
     ensures order { IfOk result (λ rows. in_order falling.now table.now
         ≡ map (row_near table.now) rows.items) }
     ensures permutation { IfOk result (λ rows. IsPermutation
         (range_with_len 0 (length table.now)) rows.items) }
+    ensures memory { Rises (IsErr result) room.old room.new }
 {
-    let mut rows = counted(alloc, table.count())?;
-    rows.sort_by(|row, other| compare_rows(table, falling, *row, *other))?;
-    Ok(rows)
+    let mut rows = counted(room, table.count())?;
+    match rows.sort_by(|row, other| compare_rows(table, falling, *row, *other)) {
+        Ok(()) => Ok(rows),
+        Err(refused) => room.told(Err(refused)),
+    }
 }
 
 // The numbers from 0 on, so many of them.
-pub(crate) fn counted(alloc: Global, count: u32) -> Result<Vec<u32>, AllocError>
-    ensures { IfOk result (λ numbers. numbers.items ≡ range_with_len 0 count) }
+pub(crate) fn counted(room: &mut Room, count: u32) -> Result<Vec<u32>, OutOfMemory>
+    ensures numbers { IfOk result (λ numbers. numbers.items ≡ range_with_len 0 count) }
+    ensures memory { Rises (IsErr result) room.old room.new }
 {
-    let mut numbers = Vec::with_capacity(alloc, count as usize)?;
+    let mut numbers = room.told(Vec::with_capacity(room.alloc(), count as usize))?;
     for number in 0..count {
-        numbers.push(number)?;
+        room.told_back(numbers.push(number))?;
     }
     Ok(numbers)
 }

@@ -1,5 +1,6 @@
 // The bytes of many traces with two numbers of each in the place of one another.
-ghost use Rattle.std.specs.Prelude.{◌≡◌, ◌⊎◌, ◌+◌, ◌-◌, ◌*◌, ◌<◌, ◌≤◌, ◌^◌, length, None, Some, IsTrue, IfOk, IfErr, OnOk};
+ghost use Rattle.std.specs.Prelude.{◌≡◌, ◌⊎◌, ◌+◌, ◌-◌, ◌*◌, ◌<◌, ◌≤◌, ◌^◌, length, None, Some, IsTrue, IfOk, IfErr, OnOk, IsErrOf, ◌≢◌, IfSome};
+ghost use Rattle.room.specs.Refusals.{Rises};
 ghost use Rattle.num_order.specs.Number.{IsSize, InRange, bytes as bytes_of_number};
 ghost use Rattle.field_map.specs.Places.{offset_of};
 ghost use Rattle.frame_cut.specs.Splice.{splice};
@@ -17,7 +18,7 @@ use bench_rules::{Refusal, set_refusal, zeros};
 use edit_overlay::{Overlay, ReadFault};
 use field_map::{Place, TRACE_HEADER_BYTES};
 use num_order::{Order, fits, write};
-use std::alloc::Global;
+use room::Room;
 use trace_record::PackedRecord;
 use trace_view::TraceView;
 
@@ -51,7 +52,7 @@ fn begin(place: Place) -> u32
 /// look. Refused with the first refusal of the lowest trace that has one, E03, E04 or E06; E11 may
 /// come in the place of each. On disk also where a trace could not be read (E14, E15).
 pub fn swapped_bytes(
-    alloc: Global,
+    room: &mut Room,
     overlay: &mut Overlay<PackedRecord>,
     traces: &[u32],
     first: Place,
@@ -71,17 +72,18 @@ pub fn swapped_bytes(
         (λ p. swap_refusal overlay.old.volume.head (first, second)
         (trace_at overlay.old.volume p)) traces.now ≡ Some refusal)) }
     ensures seen { IsSeen overlay.old overlay.new (length traces.now) }
+    ensures memory { Rises (IsErrOf result Refusal.OutOfMemory) room.old room.new }
 {
     // Read for the proof alone, which learns that the traces are counted in 32 bits.
     let _count = overlay.count();
     let (at, size) = span(first, second);
-    let mut room = zeros(alloc, size as usize)?;
-    let part = room.as_mut_slice();
-    let mut bytes = Vec::with_capacity(alloc, traces.len() * size as usize)?;
+    let mut held = zeros(room, size as usize)?;
+    let part = held.as_mut_slice();
+    let mut bytes = room.told(Vec::with_capacity(room.alloc(), traces.len() * size as usize))?;
     for k in 0..traces.len() {
         match swap_at(overlay, traces[k], first, second, at, part)? {
             Some(refusal) => return Err(refusal),
-            None => bytes.extend_from_slice(part)?,
+            None => room.told(bytes.extend_from_slice(part))?,
         }
     }
     Ok(bytes)
@@ -105,6 +107,7 @@ fn swap_at(
         splice (trace_at overlay.old.volume p) (span_start (first, second))
         (span_size (first, second)) part.new
         ≡ swapped overlay.old.volume.head (first, second) (trace_at overlay.old.volume p)) }
+    ensures other { IfOk result (λ refusal. IfSome refusal (λ r. r ≢ Refusal.OutOfMemory)) }
     ensures inside { IfOk result (λ refusal. refusal ≡ None →
         HasSpan (first, second) (trace_at overlay.old.volume p)) }
     ensures seen { IsSeen overlay.old overlay.new 1 }

@@ -1,6 +1,7 @@
 // Some header fields of many traces.
-ghost use Rattle.std.specs.Prelude.{◌≡◌, ◌+◌, ◌-◌, ◌*◌, ◌<◌, ◌≤◌, ◌⊎◌, [], None, Some, Ok, Err, List, All, IsTrue, IfOk, IfErr, IfSome, length};
+ghost use Rattle.std.specs.Prelude.{◌≡◌, ◌+◌, ◌-◌, ◌*◌, ◌<◌, ◌≤◌, ◌⊎◌, [], None, Some, Ok, Err, List, All, IsTrue, IfOk, IfErr, IfSome, length, IsErrOf, IsNone, ◌≢◌};
 ghost use Rattle.std.specs.Vec.{vec_capacity};
+ghost use Rattle.room.specs.Refusals.{Rises};
 ghost use Rattle.frame_cut.specs.Traces.{count_of};
 ghost use Rattle.edit_overlay.specs.CountedVolume.{IsSeen};
 ghost use Rattle.bench_rules.specs.declared.ask_fault.AskFault.TheVariants.{NoPlace, OutOfMemory as no_memory};
@@ -21,14 +22,14 @@ use crate::row::{has_row, push_row};
 use bench_rules::{AskFault, Field, Table};
 use edit_overlay::{Overlay, ReadFault};
 use field_map::{FieldMap, Place};
-use std::alloc::Global;
+use room::Room;
 use trace_record::PackedRecord;
 
 /// These fields of each of traces a to b. Looks at each of them once at most, and at none where a
 /// field has no place. Refused: E02, then E03 where one of the traces lacks a place, else E11
 /// alone. On disk also where a trace could not be read (E14, E15).
 pub fn table(
-    alloc: Global,
+    room: &mut Room,
     overlay: &mut Overlay<PackedRecord>,
     map: &FieldMap,
     a: u32,
@@ -48,14 +49,15 @@ pub fn table(
         (each_of (place_in_trace map.now.pairs) fields.now)))) }
     ensures seen { IsSeen overlay.old overlay.new
         (looks_at (each_of (place_in_trace map.now.pairs) fields.now) (b + 1 - a)) }
+    ensures memory { Rises (IsErrOf result AskFault.OutOfMemory) room.old room.new }
 {
     if !have_places(map, fields) {
         return Err(AskFault::NoField);
     }
-    let Some(places) = places_of(alloc, map, fields) else {
+    let Some(places) = places_of(room, map, fields) else {
         return Err(without_memory(overlay, map, a, b, fields)?);
     };
-    match room(alloc, (b - a + 1) as usize, places.len()) {
+    match space(room, (b - a + 1) as usize, places.len()) {
         Some(numbers) => filled(overlay, a, b, places.as_slice(), numbers),
         None => Err(without_memory(overlay, map, a, b, fields)?),
     }
@@ -65,7 +67,7 @@ pub fn table(
 /// none where a field has no place. Refused: E02, then E03 where one of the traces lacks a place;
 /// E11 may come in the place of E03. On disk also where a trace could not be read (E14, E15).
 pub fn table_among(
-    alloc: Global,
+    room: &mut Room,
     overlay: &mut Overlay<PackedRecord>,
     map: &FieldMap,
     traces: Vec<u32>,
@@ -80,29 +82,33 @@ pub fn table_among(
         (IsTrue overlay.new.agreed → table_answer_of_each overlay.old.volume traces.items
         (each_of (place_in_trace map.now.pairs) fields.now) ≡ Err fault)) }
     ensures seen { IsSeen overlay.old overlay.new (length traces.items) }
+    ensures memory { Rises (IsErrOf result AskFault.OutOfMemory) room.old room.new }
 {
     if !have_places(map, fields) {
         return Err(AskFault::NoField);
     }
-    let Some(places) = places_of(alloc, map, fields) else {
+    let Some(places) = places_of(room, map, fields) else {
         return Err(AskFault::OutOfMemory);
     };
-    let Some(room) = room(alloc, traces.len(), places.len()) else {
+    let Some(numbers) = space(room, traces.len(), places.len()) else {
         return Err(AskFault::OutOfMemory);
     };
     // Read for the proof alone: they are no more than there are traces, which a `u32` counts.
     let _count = overlay.count();
-    let numbers = listed_rows(overlay, traces.as_slice(), places.as_slice(), room)?;
+    let numbers = listed_rows(overlay, traces.as_slice(), places.as_slice(), numbers)?;
     Ok(Table::listed(traces, places.len(), numbers))
 }
 
 // Room for so many rows of so many numbers; `None` where there is none.
-fn room(alloc: Global, count: usize, width: usize) -> Option<Vec<i128>>
+fn space(room: &mut Room, count: usize, width: usize) -> Option<Vec<i128>>
     ensures empty { IfSome result (λ numbers. numbers.items ≡ []) }
     ensures room { IfSome result (λ numbers. width * count ≤ vec_capacity numbers) }
+    ensures memory { Rises (IsNone result) room.old room.new }
 {
-    let numbers = width.checked_mul(count)?;
-    match Vec::with_capacity(alloc, numbers) {
+    // More of them than can be counted are asked for too, as many as can: the allocator refuses
+    // them.
+    let numbers = width.saturating_mul(count);
+    match room.told(Vec::with_capacity(room.alloc(), numbers)) {
         Ok(numbers) => Some(numbers),
         Err(_) => None,
     }
@@ -128,6 +134,7 @@ fn filled(
     ensures err { IfErr result (λ fault. IsReadFault overlay.old.loaded.on_disk fault ⊎
         (IsTrue overlay.new.agreed → (fault ≡ NoPlace) ×
         (table_of overlay.old.volume places.now a b ≡ None))) }
+    ensures other { IfErr result (λ fault. fault ≢ AskFault.OutOfMemory) }
     ensures seen { IsSeen overlay.old overlay.new (b + 1 - a) }
 {
     let mut numbers = numbers;
@@ -159,6 +166,7 @@ fn listed_rows(
         (IsReadFault overlay.old.loaded.on_disk fault × (0 < length traces.now)) ⊎
         ((fault ≡ NoPlace) × (IsTrue overlay.new.agreed →
         table_of_each overlay.old.volume places.now traces.now ≡ None))) }
+    ensures other { IfErr result (λ fault. fault ≢ AskFault.OutOfMemory) }
     ensures seen { IsSeen overlay.old overlay.new (length traces.now) }
 {
     let mut numbers = numbers;

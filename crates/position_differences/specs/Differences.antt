@@ -45,6 +45,6 @@ abbrev pub is_far_from_any : Difference → Option Difference → Bool
 is_far_from_any d other = option_map_or (is_far d) other true
 
 -- the difference d is a jump where u is the usual one: it is far from u, and from those in front of it and behind it along its line,
--- those that there are; none is where u is 0 in x and in y
+-- those that there are; no difference is a jump where u is 0 in x and in y
 abbrev pub is_jump : Difference → Option Difference → Difference → Option Difference → Bool
 is_jump u before d behind = not (is_zero u) && is_far d u && is_far_from_any d before && is_far_from_any d behind

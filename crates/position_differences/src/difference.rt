@@ -42,8 +42,8 @@ impl LastDifferences {
     }
 }
 
-/// How far the second position lies above the first, exactly, whatever came last. It then is what
-/// came last.
+/// How far the second position lies above the first, exactly, whatever `last` holds; it is put
+/// there, too.
 pub fn difference_between(from: &Position, to: &Position, last: &mut LastDifferences) -> Difference
     requires from_x { FitsCoordinate from.now.x }
     requires from_y { FitsCoordinate from.now.y }

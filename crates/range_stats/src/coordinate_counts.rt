@@ -1,11 +1,13 @@
-ghost use Rattle.std.specs.Prelude.{◌≡◌, [], map, IfOk};
+ghost use Rattle.std.specs.Prelude.{◌≡◌, [], map, IfOk, IsErr};
+ghost use Rattle.room.specs.Refusals.{Rises};
 ghost use Rattle.key_counts.specs.Counts.{count_of};
 ghost use Rattle.key_counts.specs.Packed.{ratio_in};
 ghost use Rattle.key_counts.specs.RatioOrder.{ratio_cmp};
 ghost use Rattle.key_counts.specs.Rising.{times_in};
 ghost use Rattle.key_counts.specs.Ends.{IsSpan};
 
-use key_counts::{Counter, Counts, OutOfMemory, PackedRatio, Ratio};
+use key_counts::{Counter, Counts, PackedRatio, Ratio};
+use room::{OutOfMemory, Room};
 use std::alloc::Global;
 use std::marker::Model;
 
@@ -42,11 +44,15 @@ impl CoordinateCounts {
 
     /// How often each of these coordinates occurs among them. Takes memory for the counts; refused
     /// for want of it alone.
-    pub fn from_keys(alloc: Global, keys: Vec<PackedRatio>) -> Result<CoordinateCounts, OutOfMemory>
-        ensures { IfOk result (λ v. (q : Ratio) →
+    pub fn from_keys(
+        room: &mut Room,
+        keys: Vec<PackedRatio>,
+    ) -> Result<CoordinateCounts, OutOfMemory>
+        ensures numbers { IfOk result (λ v. (q : Ratio) →
             count_of ratio_cmp v q ≡ times_in ratio_cmp (map ratio_in keys.items) q) }
+        ensures memory { Rises (IsErr result) room.old room.new }
     {
-        let packed = Counts::from_keys(alloc, keys)?;
+        let packed = Counts::from_keys(room, keys)?;
         Ok(CoordinateCounts { packed })
     }
 
@@ -73,8 +79,8 @@ impl Counter<PackedRatio> for CoordinateCounts {
 
     ghost number = { λ es. count_of ratio_cmp es };
 
-    fn raise(&mut self, key: PackedRatio) -> Result<(), OutOfMemory> {
-        self.packed.raise(key)?;
+    fn raise(&mut self, room: &mut Room, key: PackedRatio) -> Result<(), OutOfMemory> {
+        self.packed.raise(room, key)?;
         Ok(())
     }
 

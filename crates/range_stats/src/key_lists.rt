@@ -1,6 +1,7 @@
 // The keys of records that ranges and totals count, in their order, several lists made in one pass:
 // the records lie far apart, and a pass takes longer than what is taken from them.
-ghost use Rattle.std.specs.Prelude.{◌≡◌, ◌++◌, [], ◌∷◌, IfOk, OnOk, map, filter_map};
+ghost use Rattle.std.specs.Prelude.{◌≡◌, ◌++◌, [], ◌∷◌, IfOk, IsErr, OnOk, map, filter_map};
+ghost use Rattle.room.specs.Refusals.{Rises};
 ghost use Rattle.key_counts.specs.Packed.{ratio_in};
 ghost use Rattle.trace_record.specs.Facts.{facts_of};
 ghost use Rattle.trace_record.specs.Tally.{tally_of, IsSmall};
@@ -9,8 +10,8 @@ ghost use Rattle.range_stats.specs.TotalKeys.{keys_of_totals};
 use crate::sums::Sums;
 use crate::whole_counts::{WholeExtents, Windows};
 use key_counts::PackedRatio;
-use record_table::{OutOfMemory, Records};
-use std::alloc::Global;
+use record_table::Records;
+use room::{OutOfMemory, Room};
 use trace_record::Record;
 
 // Both coordinates of each record, and where the whole numbers of all lie densely.
@@ -22,19 +23,20 @@ pub(crate) struct CoordinateKeys {
 }
 
 pub(crate) fn coordinate_keys(
-    alloc: Global,
+    room: &mut Room,
     records: &Records,
 ) -> Result<CoordinateKeys, OutOfMemory>
     ensures x { IfOk result (λ keys. map ratio_in keys.x.items ≡ map (λ r. r.x) records.now) }
     ensures y { IfOk result (λ keys. map ratio_in keys.y.items ≡ map (λ r. r.y) records.now) }
+    ensures memory { Rises (IsErr result) room.old room.new }
 {
-    let mut x = Vec::with_capacity(alloc, records.len())?;
-    let mut y = Vec::with_capacity(alloc, records.len())?;
+    let mut x = room.told(Vec::with_capacity(room.alloc(), records.len()))?;
+    let mut y = room.told(Vec::with_capacity(room.alloc(), records.len()))?;
     let mut extents = WholeExtents::none();
     for trace in records.iter() {
         extents.include(&trace);
-        x.push(trace.packed_x())?;
-        y.push(trace.packed_y())?;
+        room.told_back(x.push(trace.packed_x()))?;
+        room.told_back(y.push(trace.packed_y()))?;
     }
     let windows = extents.windows(records.len());
     Ok(CoordinateKeys { x, y, windows })
@@ -49,7 +51,7 @@ pub(crate) struct EndKeys {
     pub sums: Sums,
 }
 
-pub(crate) fn end_keys(alloc: Global, records: &Records) -> Result<EndKeys, OutOfMemory>
+pub(crate) fn end_keys(room: &mut Room, records: &Records) -> Result<EndKeys, OutOfMemory>
     requires { IsSmall (tally_of keys_of_totals (map facts_of records.now)) }
     ensures least { IfOk result (λ keys. keys.least.items ≡
         map (λ a. a.least) (filter_map (λ r. r.amplitudes) records.now)) }
@@ -59,12 +61,13 @@ pub(crate) fn end_keys(alloc: Global, records: &Records) -> Result<EndKeys, OutO
         (tally_of keys_of_totals (map facts_of records.now)).number) }
     ensures sum { IfOk result (λ keys. keys.sums.sum ≡
         (tally_of keys_of_totals (map facts_of records.now)).sum) }
+    ensures memory { Rises (IsErr result) room.old room.new }
 {
-    let mut least = Vec::with_capacity(alloc, records.len())?;
-    let mut greatest = Vec::with_capacity(alloc, records.len())?;
+    let mut least = room.told(Vec::with_capacity(room.alloc(), records.len()))?;
+    let mut greatest = room.told(Vec::with_capacity(room.alloc(), records.len()))?;
     let mut sums = Sums { number: 0, sum: 0 };
     for trace in records.iter() {
-        push_ends(&mut least, &mut greatest, &trace)?;
+        push_ends(room, &mut least, &mut greatest, &trace)?;
         let values = Sums::of(&trace);
         sums.number += values.number;
         sums.sum += values.sum;
@@ -78,6 +81,7 @@ pub(crate) fn end_keys(alloc: Global, records: &Records) -> Result<EndKeys, OutO
 
 // Puts the ends of the trace behind the others, where its samples have values.
 fn push_ends(
+    room: &mut Room,
     least: &mut Vec<i128>,
     greatest: &mut Vec<i128>,
     trace: &Record,
@@ -86,10 +90,11 @@ fn push_ends(
         map (λ a. a.least) (filter_map (λ r. r.amplitudes) (trace.now ∷ []))) }
     ensures greatest { OnOk result (greatest.new.items ≡ greatest.old.items ++
         map (λ a. a.greatest) (filter_map (λ r. r.amplitudes) (trace.now ∷ []))) }
+    ensures memory { Rises (IsErr result) room.old room.new }
 {
     if let Some(amplitudes) = trace.amplitudes {
-        least.push(amplitudes.least)?;
-        greatest.push(amplitudes.greatest)?;
+        room.told_back(least.push(amplitudes.least))?;
+        room.told_back(greatest.push(amplitudes.greatest))?;
     }
     Ok(())
 }

@@ -1,5 +1,6 @@
-ghost use Rattle.std.specs.Prelude.{◌≡◌, OnOk, OnErr, IsOk};
+ghost use Rattle.std.specs.Prelude.{◌≡◌, OnOk, OnErr, IsErr, IsOk};
 ghost use Rattle.std.specs.Ordering.{int_cmp};
+ghost use Rattle.room.specs.Refusals.{Rises};
 ghost use Rattle.key_counts.specs.Counts.{count_of};
 ghost use Rattle.key_counts.specs.Numbers.{IsSame, IsMoreBy, HasRoom as HasRoomFor, Holds};
 ghost use Rattle.key_counts.specs.RatioOrder.{ratio_cmp};
@@ -11,8 +12,9 @@ use crate::coordinate_counts::CoordinateCounts;
 use crate::key_lists::{CoordinateKeys, coordinate_keys};
 use crate::keys::Keys;
 use crate::whole_counts::WholeCounts;
-use key_counts::{OutOfMemory, Ratio, lower_any, lower_both, raise_any, raise_both};
+use key_counts::{Ratio, lower_any, lower_both, raise_any, raise_both};
 use record_table::{Records, Running};
+use room::{OutOfMemory, Room};
 use std::alloc::Global;
 use trace_record::Record;
 use window_counts::LineCounts;
@@ -48,15 +50,15 @@ impl Running for Ranges {
         }
     }
 
-    fn from_records(alloc: Global, records: &Records) -> Result<Ranges, record_table::OutOfMemory> {
-        let CoordinateKeys { x, y, windows } = coordinate_keys(alloc, records)?;
+    fn from_records(room: &mut Room, records: &Records) -> Result<Ranges, OutOfMemory> {
+        let CoordinateKeys { x, y, windows } = coordinate_keys(room, records)?;
         let WholeCounts {
             inlines,
             crosslines,
             offsets,
-        } = WholeCounts::of(alloc, records, &windows)?;
-        let coordinates_x = CoordinateCounts::from_keys(alloc, x)?;
-        let coordinates_y = CoordinateCounts::from_keys(alloc, y)?;
+        } = WholeCounts::of(room, records, &windows)?;
+        let coordinates_x = CoordinateCounts::from_keys(room, x)?;
+        let coordinates_y = CoordinateCounts::from_keys(room, y)?;
         Ok(Ranges {
             records: records.len() as u64,
             inlines,
@@ -67,8 +69,8 @@ impl Running for Ranges {
         })
     }
 
-    fn add(&mut self, trace: &Record) -> Result<(), record_table::OutOfMemory> {
-        self.raise(&Keys::of(trace))?;
+    fn add(&mut self, room: &mut Room, trace: &Record) -> Result<(), OutOfMemory> {
+        self.raise(room, &Keys::of(trace))?;
         self.records += 1;
         Ok(())
     }
@@ -80,10 +82,11 @@ impl Running for Ranges {
 
     fn add_beside(
         &mut self,
+        room: &mut Room,
         trace: &Record,
         other: &Record,
-    ) -> Result<(), record_table::OutOfMemory> {
-        self.raise(&Keys::beside(trace, other))?;
+    ) -> Result<(), OutOfMemory> {
+        self.raise(room, &Keys::beside(trace, other))?;
         self.records += 1;
         Ok(())
     }
@@ -116,7 +119,7 @@ impl Ranges {
     }
 
     // Counts the keys once more, or none of them where a growth is refused.
-    fn raise(&mut self, keys: &Keys) -> Result<(), OutOfMemory>
+    fn raise(&mut self, room: &mut Room, keys: &Keys) -> Result<(), OutOfMemory>
         requires { HasRoom self.old keys.now }
         ensures ok { OnOk result ((k : Key) →
             count_in_ranges self.new k ≡ count_in_ranges self.old k + times_among keys.now k) }
@@ -125,14 +128,17 @@ impl Ranges {
         ensures held { ((k : Key) → times_among keys.now k ≤ count_in_ranges self.old k) →
             IsOk result }
         ensures records { self.new.records ≡ self.old.records }
+        ensures memory { Rises (IsErr result) room.old room.new }
     {
         raise_lines(
+            room,
             &mut self.inlines,
             &mut self.crosslines,
             &mut self.offsets,
             keys,
         )?;
         if let Err(error) = raise_both(
+            room,
             &mut self.coordinates_x,
             keys.x,
             &mut self.coordinates_y,
@@ -181,6 +187,7 @@ fn whole_span(counts: &LineCounts) -> Option<(Ratio, Ratio)>
 
 // Counts the inline, crossline and offset once more, or none of them where a growth is refused.
 fn raise_lines(
+    room: &mut Room,
     inlines: &mut LineCounts,
     crosslines: &mut LineCounts,
     offsets: &mut LineCounts,
@@ -208,9 +215,10 @@ fn raise_lines(
     ensures held { Holds (λ k. k) int_cmp (count_of int_cmp inlines.old) keys.now.inline →
         Holds (λ k. k) int_cmp (count_of int_cmp crosslines.old) keys.now.crossline →
         Holds (λ k. k) int_cmp (count_of int_cmp offsets.old) keys.now.offset → IsOk result }
+    ensures memory { Rises (IsErr result) room.old room.new }
 {
-    raise_both(inlines, keys.inline, crosslines, keys.crossline)?;
-    if let Err(error) = raise_any(offsets, keys.offset) {
+    raise_both(room, inlines, keys.inline, crosslines, keys.crossline)?;
+    if let Err(error) = raise_any(room, offsets, keys.offset) {
         lower_both(inlines, keys.inline, crosslines, keys.crossline);
         return Err(error);
     }

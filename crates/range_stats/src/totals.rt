@@ -1,8 +1,9 @@
 use crate::ends::Ends;
 use crate::key_lists::{EndKeys, end_keys};
 use crate::sums::Sums;
-use key_counts::{Counts, OutOfMemory, lower_both, raise_both};
+use key_counts::{Counts, lower_both, raise_both};
 use record_table::{Records, Running};
+use room::{OutOfMemory, Room};
 use std::alloc::Global;
 use trace_record::Record;
 
@@ -36,14 +37,14 @@ impl Running for Totals {
         }
     }
 
-    fn from_records(alloc: Global, records: &Records) -> Result<Totals, record_table::OutOfMemory> {
+    fn from_records(room: &mut Room, records: &Records) -> Result<Totals, OutOfMemory> {
         let EndKeys {
             least,
             greatest,
             sums,
-        } = end_keys(alloc, records)?;
-        let least_samples = Counts::from_keys(alloc, least)?;
-        let greatest_samples = Counts::from_keys(alloc, greatest)?;
+        } = end_keys(room, records)?;
+        let least_samples = Counts::from_keys(room, least)?;
+        let greatest_samples = Counts::from_keys(room, greatest)?;
         Ok(Totals {
             records: records.len() as u64,
             number: sums.number,
@@ -53,8 +54,8 @@ impl Running for Totals {
         })
     }
 
-    fn add(&mut self, trace: &Record) -> Result<(), record_table::OutOfMemory> {
-        self.raise(&Ends::of(trace))?;
+    fn add(&mut self, room: &mut Room, trace: &Record) -> Result<(), OutOfMemory> {
+        self.raise(room, &Ends::of(trace))?;
         let values = Sums::of(trace);
         self.records += 1;
         self.number += values.number;
@@ -72,10 +73,11 @@ impl Running for Totals {
 
     fn add_beside(
         &mut self,
+        room: &mut Room,
         trace: &Record,
         other: &Record,
-    ) -> Result<(), record_table::OutOfMemory> {
-        self.raise(&Ends::beside(trace, other))?;
+    ) -> Result<(), OutOfMemory> {
+        self.raise(room, &Ends::beside(trace, other))?;
         let values = Sums::of(trace);
         self.records += 1;
         self.number += values.number;
@@ -93,7 +95,8 @@ impl Running for Totals {
 }
 
 impl Totals {
-    ghost use Rattle.std.specs.Prelude.{◌≡◌, ◌+◌, ◌≤◌, OnOk, OnErr, IsOk};
+    ghost use Rattle.std.specs.Prelude.{◌≡◌, ◌+◌, ◌≤◌, OnOk, OnErr, IsErr, IsOk};
+    ghost use Rattle.room.specs.Refusals.{Rises};
     ghost use Rattle.trace_record.specs.Keys.{Key};
     ghost use Rattle.range_stats.specs.OfTally.{IsLeastIn, IsGreatestIn};
     ghost use Rattle.range_stats.specs.OfKeys.{times_among_ends};
@@ -128,7 +131,7 @@ impl Totals {
     }
 
     // Counts the ends once more, or neither where a growth is refused.
-    fn raise(&mut self, ends: &Ends) -> Result<(), OutOfMemory>
+    fn raise(&mut self, room: &mut Room, ends: &Ends) -> Result<(), OutOfMemory>
         requires { HasRoom self.old ends.now }
         ensures ok { OnOk result ((k : Key) →
             count_in_totals self.new k ≡ count_in_totals self.old k + times_among_ends ends.now k) }
@@ -139,8 +142,10 @@ impl Totals {
         ensures records { self.new.records ≡ self.old.records }
         ensures number { self.new.number ≡ self.old.number }
         ensures sum { self.new.sum ≡ self.old.sum }
+        ensures memory { Rises (IsErr result) room.old room.new }
     {
         raise_both(
+            room,
             &mut self.least_samples,
             ends.least,
             &mut self.greatest_samples,

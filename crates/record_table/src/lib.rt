@@ -5,18 +5,18 @@
 //!
 //! `RecordList::with_capacity` and `push` take memory for the list. `Running::add` and `add_beside`
 //! take memory only for a key that is not held; where a growth is refused they leave all as it was.
-//! `Running::from_records` counts all at once, and takes memory for what it makes. No other call
-//! takes memory. Places count from 0.
+//! `Running::from_records` counts all at once, and takes memory for what it makes. Each of them
+//! gives up only where a growth was refused in that call. No other call takes memory. Places count
+//! from 0.
 #![tactic(auto)]
 
-mod out_of_memory;
 mod record_list;
 mod records;
 mod records_iter;
 mod running;
 
-pub use crate::out_of_memory::OutOfMemory;
 pub use crate::record_list::RecordList;
 pub use crate::records::Records;
 pub use crate::records_iter::RecordsIter;
 pub use crate::running::Running;
+pub use room::OutOfMemory;

@@ -1,8 +1,8 @@
-ghost use Rattle.std.specs.Prelude.{◌≡◌, ◌==◌, ◌++◌, [], ◌∷◌, IfOk, OnOk, OnErr, length, option_map, slice_get};
+ghost use Rattle.std.specs.Prelude.{◌≡◌, ◌==◌, ◌++◌, [], ◌∷◌, IfOk, IsErr, OnOk, OnErr, length, option_map, slice_get};
+ghost use Rattle.room.specs.Refusals.{Rises};
 ghost use Rattle.trace_record.specs.Packed.{record_in};
 
-use crate::OutOfMemory;
-use std::alloc::Global;
+use room::{OutOfMemory, Room};
 use std::marker::Model;
 use trace_record::{PackedRecord, Record};
 
@@ -31,20 +31,22 @@ impl Model for RecordList {
 impl RecordList {
     /// No records, with room for so many. Takes memory for them at once; refused for want of it
     /// alone.
-    pub fn with_capacity(alloc: Global, capacity: usize) -> Result<RecordList, OutOfMemory>
-        ensures { IfOk result (λ list. list ≡ []) }
+    pub fn with_capacity(room: &mut Room, capacity: usize) -> Result<RecordList, OutOfMemory>
+        ensures empty { IfOk result (λ list. list ≡ []) }
+        ensures memory { Rises (IsErr result) room.old room.new }
     {
-        let packed = Vec::with_capacity(alloc, capacity)?;
+        let packed = room.told(Vec::with_capacity(room.alloc(), capacity))?;
         Ok(RecordList { packed })
     }
 
     /// Puts the record behind the others. Takes memory where there is no room; refused for want of
     /// it alone, and then the list is as it was.
-    pub fn push(&mut self, added: &Record) -> Result<(), OutOfMemory>
+    pub fn push(&mut self, room: &mut Room, added: &Record) -> Result<(), OutOfMemory>
         ensures ok { OnOk result (self.new ≡ self.old ++ added.now ∷ []) }
         ensures err { OnErr result (self.new ≡ self.old) }
+        ensures memory { Rises (IsErr result) room.old room.new }
     {
-        self.packed.push(PackedRecord::of(*added))?;
+        room.told_back(self.packed.push(PackedRecord::of(*added)))?;
         Ok(())
     }
 

@@ -1,6 +1,8 @@
-ghost use Rattle.std.specs.Prelude.{◌≡◌, OnOk, OnErr, IsOk, IfOk, map};
+ghost use Rattle.std.specs.Prelude.{◌≡◌, OnOk, OnErr, IsErr, IsOk, IfOk, map};
+ghost use Rattle.room.specs.Refusals.{Rises};
 
-use crate::{OutOfMemory, Records};
+use crate::Records;
+use room::{OutOfMemory, Room};
 use std::alloc::Global;
 use trace_record::Record;
 
@@ -24,19 +26,21 @@ pub trait Running: Drop {
     /// The value that counted these traces, made all at once from sorted keys. Takes memory for
     /// what it holds and, while it is made, for lists of keys and one of their runs; refused for
     /// want of it alone.
-    fn from_records(alloc: Global, records: &Records<'_>) -> Result<Self, OutOfMemory>
+    fn from_records(room: &mut Room, records: &Records<'_>) -> Result<Self, OutOfMemory>
         requires { IsSmall (tally_of counted (map facts_of records.now)) }
-        ensures { IfOk result (λ value.
-            Same (tally value) (tally_of counted (map facts_of records.now))) };
+        ensures same { IfOk result (λ value.
+            Same (tally value) (tally_of counted (map facts_of records.now))) }
+        ensures memory { Rises (IsErr result) room.old room.new };
 
     /// Counts the trace. Takes memory for a key that is not held, and leaves all as it was where a
     /// growth is refused.
-    fn add(&mut self, trace: &Record) -> Result<(), OutOfMemory>
+    fn add(&mut self, room: &mut Room, trace: &Record) -> Result<(), OutOfMemory>
         requires { IsSmall (plus counted (tally self.old) (facts_of trace.now)) }
         ensures ok { OnOk result
             (Same (tally self.new) (plus counted (tally self.old) (facts_of trace.now))) }
         ensures err { OnErr result (Same (tally self.new) (tally self.old)) }
-        ensures held { HasKeys counted (tally self.old) (facts_of trace.now) → IsOk result };
+        ensures held { HasKeys counted (tally self.old) (facts_of trace.now) → IsOk result }
+        ensures memory { Rises (IsErr result) room.old room.new };
 
     /// No longer counts the trace. Takes no memory.
     fn remove(&mut self, trace: &Record)
@@ -47,14 +51,20 @@ pub trait Running: Drop {
     /// Counts the trace beside another, for which it comes to stand: a key of both stays counted
     /// once, and is not touched. Takes memory for a key that is not held, and leaves all as it was
     /// where a growth is refused.
-    fn add_beside(&mut self, trace: &Record, other: &Record) -> Result<(), OutOfMemory>
+    fn add_beside(
+        &mut self,
+        room: &mut Room,
+        trace: &Record,
+        other: &Record,
+    ) -> Result<(), OutOfMemory>
         requires { IsSmall
             (plus_beside counted (tally self.old) (facts_of trace.now) (facts_of other.now)) }
         ensures ok { OnOk result (Same (tally self.new)
             (plus_beside counted (tally self.old) (facts_of trace.now) (facts_of other.now))) }
         ensures err { OnErr result (Same (tally self.new) (tally self.old)) }
         ensures held { HasKeysBeside counted (tally self.old) (facts_of trace.now)
-            (facts_of other.now) → IsOk result };
+            (facts_of other.now) → IsOk result }
+        ensures memory { Rises (IsErr result) room.old room.new };
 
     /// No longer counts the trace beside another, which stands for it: a key of both stays counted
     /// once, and is not touched. Takes no memory.

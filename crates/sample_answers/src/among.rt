@@ -1,5 +1,6 @@
 // What the samples of listed traces say, one trace after another.
-ghost use Rattle.std.specs.Prelude.{◌≡◌, ◌⊎◌, ◌<◌, Ok, Err, IsTrue, IfOk, IfErr, false, length, map, true};
+ghost use Rattle.std.specs.Prelude.{◌≡◌, ◌⊎◌, ◌<◌, Ok, Err, IsTrue, IfOk, IfErr, false, length, map, true, IsErrOf};
+ghost use Rattle.room.specs.Refusals.{Rises};
 ghost use Rattle.frame_cut.specs.Traces.{count_of};
 ghost use Rattle.trace_view.specs.Values.{has_floats};
 ghost use Rattle.edit_overlay.specs.CountedVolume.{IsSeen};
@@ -14,14 +15,14 @@ use bench_rules::{
     has_opaque_samples,
 };
 use edit_overlay::Overlay;
-use std::alloc::Global;
+use room::Room;
 use trace_record::PackedRecord;
 
 /// The answer on what the samples of these traces say, which rise. Looks at each of them once at
 /// most. Refused: E12 where samples have no values, and no trace is looked at then; E11. On disk
 /// also where a trace could not be read (E14, E15).
 pub fn stats_among(
-    alloc: Global,
+    room: &mut Room,
     overlay: &mut Overlay<PackedRecord>,
     traces: &[u32],
 ) -> Result<Answer, AskFault>
@@ -32,20 +33,21 @@ pub fn stats_among(
         (IsReadFault overlay.old.loaded.on_disk fault × (0 < length traces.now)) ⊎
         (stats_answer_of_each overlay.old.volume traces.now ≡ Err fault)) }
     ensures seen { IsSeen overlay.old overlay.new (length traces.now) }
+    ensures memory { Rises (IsErrOf result AskFault.OutOfMemory) room.old room.new }
 {
     if has_opaque_samples(overlay) {
         return Err(AskFault::NoValues);
     }
     if has_float_samples(overlay) {
-        let found = floats_among(alloc, overlay, traces)?;
+        let found = floats_among(room, overlay, traces)?;
         return Ok(Answer::FloatStats(found));
     }
-    let found = numbers_among(alloc, overlay, traces)?;
+    let found = numbers_among(room, overlay, traces)?;
     Ok(Answer::Stats(found))
 }
 
 fn numbers_among(
-    alloc: Global,
+    room: &mut Room,
     overlay: &mut Overlay<PackedRecord>,
     traces: &[u32],
 ) -> Result<Items<TraceStatistics>, AskFault>
@@ -56,17 +58,18 @@ fn numbers_among(
     ensures err { IfErr result (λ fault. (fault ≡ no_memory) ⊎
         (IsReadFault overlay.old.loaded.on_disk fault × (0 < length traces.now))) }
     ensures seen { IsSeen overlay.old overlay.new (length traces.now) }
+    ensures memory { Rises (IsErrOf result AskFault.OutOfMemory) room.old room.new }
 {
-    let mut found = Vec::with_capacity(alloc, traces.len())?;
+    let mut found = room.told(Vec::with_capacity(room.alloc(), traces.len()))?;
     for p in traces {
         let one = of_numbers(overlay, *p)?;
-        found.push(one)?;
+        room.told_back(found.push(one))?;
     }
     Ok(Items::new(found))
 }
 
 fn floats_among(
-    alloc: Global,
+    room: &mut Room,
     overlay: &mut Overlay<PackedRecord>,
     traces: &[u32],
 ) -> Result<Items<FloatTraceStatistics>, AskFault>
@@ -77,11 +80,12 @@ fn floats_among(
     ensures err { IfErr result (λ fault. (fault ≡ no_memory) ⊎
         (IsReadFault overlay.old.loaded.on_disk fault × (0 < length traces.now))) }
     ensures seen { IsSeen overlay.old overlay.new (length traces.now) }
+    ensures memory { Rises (IsErrOf result AskFault.OutOfMemory) room.old room.new }
 {
-    let mut found = Vec::with_capacity(alloc, traces.len())?;
+    let mut found = room.told(Vec::with_capacity(room.alloc(), traces.len()))?;
     for p in traces {
         let one = of_floats(overlay, *p)?;
-        found.push(one)?;
+        room.told_back(found.push(one))?;
     }
     Ok(Items::new(found))
 }

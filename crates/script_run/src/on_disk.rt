@@ -19,6 +19,7 @@ use crate::whole_session::session_loaded;
 use bench_core::Bench;
 use device_io::{Sink, Source};
 use edit_overlay::PassFault;
+use room::Room;
 use script_hints::Notes;
 use script_text::{RunEnd, load_fault_line};
 use std::alloc::Global;
@@ -124,7 +125,8 @@ pub fn load_on_disk(
     ensures refused { IfErr result (λ refused.
         IsPassFault size options.reading options.limits refused.read refused.fault) }
 {
-    Bench::load_on_disk(alloc, file, size, options.reading, options.limits)
+    let room = &mut Room::new(alloc);
+    Bench::load_on_disk(room, file, size, options.reading, options.limits)
 }
 
 // Tells of a file that was not loaded, which ends the run.

@@ -19,6 +19,7 @@ use bench_core::Bench;
 use bench_rules::{Answer, AskFault, ChosenQuery, Query};
 use device_io::{Sink, WriteFault};
 use float_codes::FloatFormat;
+use room::Room;
 use script_hints::{Fault, Notes, fault_of};
 use script_text::{OutBuffer, Reply};
 use script_words::{Command, Lines, parse_line};
@@ -124,7 +125,7 @@ pub(crate) fn run_line(alloc: Global, bench: &mut Bench, line: &[u8]) -> Reply
     ensures loaded { bench.new.loaded ≡ bench.old.loaded }
 {
     let traces = bench.volume().count();
-    match parse_line(alloc, bench.float_format(), traces, line) {
+    match parse_line(&mut Room::new(alloc), bench.float_format(), traces, line) {
         Ok(None) => Reply::Silent,
         Ok(Some(command)) => run_command(alloc, bench, &command),
         Err(fault) => Reply::Fault(fault),
@@ -141,7 +142,7 @@ fn run_command(alloc: Global, bench: &mut Bench, command: &Command) -> Reply
     ensures loaded { bench.new.loaded ≡ bench.old.loaded }
 {
     match command {
-        Command::Apply(edit) => Reply::Edited(bench.apply(alloc, edit)),
+        Command::Apply(edit) => Reply::Edited(bench.apply(&mut Room::new(alloc), edit)),
         Command::Ask(query) => answered(alloc, bench, query),
     }
 }
@@ -157,10 +158,10 @@ fn answered(alloc: Global, bench: &mut Bench, query: &Query) -> Reply
     ensures loaded { bench.new.loaded ≡ bench.old.loaded }
 {
     if asks_for_section(query) {
-        return section_reply(bench.ask(alloc, query));
+        return section_reply(bench.ask(&mut Room::new(alloc), query));
     }
     let floats = floats_of(bench, query);
-    shown_reply(alloc, floats, bench.ask(alloc, query))
+    shown_reply(alloc, floats, bench.ask(&mut Room::new(alloc), query))
 }
 
 // Whether the query is for a section.
@@ -224,7 +225,7 @@ fn shown_reply(alloc: Global, floats: Option<FloatFormat>, reply: Result<Answer,
     };
     match reply {
         Err(fault) => Reply::Asked(Err(fault)),
-        Ok(answer) => match shown(alloc, format, &answer) {
+        Ok(answer) => match shown(&mut Room::new(alloc), format, &answer) {
             Ok(Some(shown)) => Reply::Floats(shown),
             Ok(None) => Reply::Asked(Ok(answer)),
             Err(_) => Reply::Asked(Err(AskFault::OutOfMemory)),

@@ -7,6 +7,7 @@ ghost use Rattle.script_run.specs.Places.{SavesElsewhere};
 use bench_core::Bench;
 use bench_rules::{Answer, Query};
 use device_io::Sink;
+use room::Room;
 use safe_save::{Ended, NotBegun, SavePlace};
 use script_text::SessionFault;
 use std::alloc::Global;
@@ -64,7 +65,8 @@ fn count_bytes(alloc: Global, bench: &mut Bench) -> u64
     ensures agreed { IsTrue bench.new.agreed → IsTrue bench.old.agreed }
     ensures loaded { bench.new.loaded ≡ bench.old.loaded }
 {
-    match bench.ask(alloc, &Query::Info) {
+    let room = &mut Room::new(alloc);
+    match bench.ask(room, &Query::Info) {
         Ok(Answer::Info(info)) => info.bytes,
         _ => 0,
     }

@@ -4,6 +4,7 @@ ghost use Rattle.script_text.specs.Devices.{device_of};
 ghost use Rattle.script_run.specs.Loading.{ReadsScript, IsScriptRefused};
 
 use device_io::{ReadFault, Source};
+use room::Room;
 use script_text::ScriptFault;
 use std::alloc::Global;
 use std::io::Read;
@@ -22,7 +23,8 @@ pub(crate) fn read_script<S: Read>(
     ensures err { IfErr result (λ fault. IsScriptRefused (device_of S.remaining script.old)
         (device_of S.remaining script.new) fault) }
 {
-    match script.read_up_to(alloc, MOST_BYTES) {
+    let room = &mut Room::new(alloc);
+    match script.read_up_to(room, MOST_BYTES) {
         Ok(bytes) => Ok(bytes),
         Err(ReadFault::ReadFailed) => Err(ScriptFault::ReadFailed),
         Err(ReadFault::TooLarge) => Err(ScriptFault::TooLarge),

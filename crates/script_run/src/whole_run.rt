@@ -17,6 +17,7 @@ use bench_laws::steps_stay_cut;
 use device_io::{Sink, Source};
 use edit_overlay::SaveFault;
 use frame_cut::LoadFault;
+use room::Room;
 use script_hints::Notes;
 use script_text::{RunEnd, TextBuffer, load_fault_line, script_fault_line, write_text};
 use std::alloc::Global;
@@ -116,7 +117,8 @@ pub(crate) fn load<R: Read>(
         (λ fault. IsLoadRefused (device_of R.remaining reader.old)
         (device_of R.remaining reader.new) options.reading options.limits fault) }
 {
-    Bench::load(alloc, reader, options.reading, options.limits)
+    let room = &mut Room::new(alloc);
+    Bench::load(room, reader, options.reading, options.limits)
 }
 
 fn save<O: Write>(bench: &mut Bench, out: &mut Sink<O>) -> Result<(), SaveFault>

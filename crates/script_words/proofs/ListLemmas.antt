@@ -1,10 +1,11 @@
 -- Lists that are read word by word.
-use Rattle.std.proofs.Common.{◌≡◌, ◌∙◌, ◌%◌, ◌<◌, ◌⊎◌, arith, sym, ap, refl, inl, inr, ℕ, length, List, [], ◌∷◌, ◌++◌, true, false, Bool, Option, Some, None, Result, Ok, Err, is_some, ok_or, option_map, option_and_then, append_assoc, append-nil}
+use Rattle.std.proofs.Common.{◌≡◌, ◌∙◌, ◌%◌, ◌<◌, ◌⊎◌, arith, sym, ap, refl, inl, inr, ℕ, length, List, [], ◌∷◌, ◌++◌, true, false, Bool, Option, Some, None, Result, Ok, Err, is_some, ok_or, option_map, option_and_then, append_assoc, append-nil, if◌then◌else◌}
 use Rattle.std.specs.Prelude.{min}
 use Rattle.std.specs.Result.{IsErrAnd}
 use Rattle.std.proofs.lemmas.Bool.Decides.{nat_tests}
 use Rattle.bench_rules.specs.declared.field.Field.{Field}
 use Rattle.bench_rules.specs.declared.operand.Operand.{Operand}
+use Rattle.bench_rules.specs.declared.operand.Operand.TheVariants as operands
 use Rattle.bench_rules.specs.declared.operator.Operator.{Operator}
 use Rattle.bench_rules.specs.declared.edit.Edit.TheVariants as edits
 use Rattle.script_words.specs.declared.command.Command.{Command}
@@ -189,3 +190,19 @@ module _ (a b : ℕ) where
       let field : x ≡ k = cc in
       let source : y ≡ l = cc in
       rw (field, source, some_list q ss g) (inl refl)
+
+-- ---- an operand
+
+pub field_operand_err : (b : Bool) (numbers : Option Operand) (o : Option Field) (fault : LineFault) (r : Result Operand LineFault) → b ≡ false → IsFieldRead o (Err fault) → IsErrAnd r (λ e. e ≡ fault)
+    → IsOperandRead (if b then numbers else option_map operands.Field o) r
+field_operand_err true numbers o fault r other read is = absurd cc
+field_operand_err false numbers None fault (Ok x) other read is = absurd is
+field_operand_err false numbers None fault (Err e) other read is = cc
+field_operand_err false numbers (Some f) fault (Ok x) other read is = absurd is
+field_operand_err false numbers (Some f) fault (Err e) other read is = by read
+  where
+    by : IsFieldRead (Some f) (Err fault) → IsOperandRead (Some (operands.Field f)) (Err e)
+    by (inl found) = absurd cc
+    by (inr (want, name)) =
+        let same : e ≡ OutOfMemory = cc in
+        inr (ap (λ (k : LineFault). let r : Result Operand LineFault = Err k in r) same, name)

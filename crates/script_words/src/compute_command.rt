@@ -1,5 +1,6 @@
 // The command that computes a field.
-ghost use Rattle.std.specs.Prelude.{◌≡◌, is_some};
+ghost use Rattle.std.specs.Prelude.{◌≡◌, is_some, IsErrOf};
+ghost use Rattle.room.specs.Refusals.{Rises};
 ghost use Rattle.script_words.specs.Words.{words_of};
 ghost use Rattle.script_words.specs.Ranges.{spelled};
 ghost use Rattle.script_words.specs.Readers.{operand_of, operator_of, steps_of};
@@ -12,10 +13,11 @@ use crate::line_fault::LineFault;
 use crate::numbers::{is_number_like, number, trace};
 use crate::words::{Words, number_of_words};
 use bench_rules::{Edit, Items, Operand, Operator};
-use std::alloc::Global;
+use room::Room;
 
-pub(crate) fn compute(alloc: Global, traces: u32, mut words: Words) -> Result<Command, LineFault>
-    ensures { IsRead (read_compute traces (spelled (words_of words.entry))) result }
+pub(crate) fn compute(room: &mut Room, traces: u32, mut words: Words) -> Result<Command, LineFault>
+    ensures read { IsRead (read_compute traces (spelled (words_of words.entry))) result }
+    ensures memory { Rises (IsErrOf result LineFault.OutOfMemory) room.old room.new }
 {
     let (a, b) = words.range().ok_or(LineFault::Words)?;
     let at = words.next().ok_or(LineFault::Words)?;
@@ -31,9 +33,9 @@ pub(crate) fn compute(alloc: Global, traces: u32, mut words: Words) -> Result<Co
     if !is_field(at) || !is_operand(source) {
         return Err(LineFault::Number);
     }
-    let steps = steps(alloc, rest)?;
-    let at = field(alloc, at)?;
-    let source = operand(alloc, source)?;
+    let steps = steps(room, rest)?;
+    let at = field(room, at)?;
+    let source = operand(room, source)?;
     Ok(Command::Apply(Edit::Compute {
         first_trace: a,
         last_trace: b,
@@ -45,8 +47,9 @@ pub(crate) fn compute(alloc: Global, traces: u32, mut words: Words) -> Result<Co
 
 // The operand that a word is: a number where it begins as one, else a field. Refused: S03, or E11
 // for a name.
-pub(crate) fn operand(alloc: Global, word: &str) -> Result<Operand, LineFault>
-    ensures { IsOperandRead (operand_of word.now) result }
+pub(crate) fn operand(room: &mut Room, word: &str) -> Result<Operand, LineFault>
+    ensures read { IsOperandRead (operand_of word.now) result }
+    ensures memory { Rises (IsErrOf result LineFault.OutOfMemory) room.old room.new }
 {
     if is_number_like(word) {
         match number(word) {
@@ -54,7 +57,7 @@ pub(crate) fn operand(alloc: Global, word: &str) -> Result<Operand, LineFault>
             None => Err(LineFault::Number),
         }
     } else {
-        Ok(Operand::Field(field(alloc, word)?))
+        Ok(Operand::Field(field(room, word)?))
     }
 }
 
@@ -101,22 +104,23 @@ fn are_steps(text: &str) -> bool
 
 // The operations that the words of the text are. Takes memory. S03 where a word is no operator or
 // no operand, else E11.
-fn steps(alloc: Global, text: &str) -> Result<Items<(Operator, Operand)>, LineFault>
-    ensures { IsListRead (steps_of (words_of text.now)) result }
+fn steps(room: &mut Room, text: &str) -> Result<Items<(Operator, Operand)>, LineFault>
+    ensures read { IsListRead (steps_of (words_of text.now)) result }
+    ensures memory { Rises (IsErrOf result LineFault.OutOfMemory) room.old room.new }
 {
     // S03 of any word comes before E11.
     if !are_steps(text) {
         return Err(LineFault::Number);
     }
-    let mut steps = Vec::new(alloc);
+    let mut steps = Vec::new(room.alloc());
     let mut words = Words::new(text);
     'words: while let Some(word) = words.next() {
         let of = words.next().ok_or(LineFault::Number)?;
         let with = operator(word).ok_or(LineFault::Number)?;
-        let of = operand(alloc, of)?;
-        if steps.push((with, of)).is_err() {
+        let of = operand(room, of)?;
+        let Ok(()) = room.told_back(steps.push((with, of))) else {
             return Err(LineFault::OutOfMemory);
-        }
+        };
     }
     Ok(Items::new(steps))
 }

@@ -1,5 +1,6 @@
 // The conditions of a command, and where they stand in its line.
-ghost use Rattle.std.specs.Prelude.{◌≡◌, is_some, Some, None, IfSome, IfNone, if◌then◌else◌};
+ghost use Rattle.std.specs.Prelude.{◌≡◌, is_some, Some, None, IfSome, IfNone, if◌then◌else◌, IsErrOf};
+ghost use Rattle.room.specs.Refusals.{Rises};
 ghost use Rattle.script_words.specs.declared.line_fault.LineFault.TheVariants.{OutOfMemory as no_memory, Number as no_number};
 ghost use Rattle.script_words.specs.Words.{words_of};
 ghost use Rattle.script_words.specs.Conditions.{comparison_of, condition_of, decimal_of, is_extreme as is_an_extreme, is_to_be_decimal, side_of, are_joined as all_joined, has_conditions as has_all, conditions_of, begins_conditions as begin_conditions, in_front, behind_where};
@@ -12,7 +13,7 @@ use crate::words::{Words, number_of_words};
 use bench_rules::{Comparison, Condition, Items, Side};
 use exact_amounts::Amount;
 use float_codes::FloatFormat;
-use std::alloc::Global;
+use room::Room;
 
 // The comparison that a word is the sign of.
 fn comparison(word: &str) -> Option<Comparison>
@@ -121,12 +122,13 @@ fn is_side(floats: Option<FloatFormat>, word: &str, other: &str) -> bool
 
 // The side of a condition that the word is, beside the other one. Refused: S03, or E11 for a name.
 fn side(
-    alloc: Global,
+    room: &mut Room,
     floats: Option<FloatFormat>,
     word: &str,
     other: &str,
 ) -> Result<Side, LineFault>
-    ensures { IsSideRead (side_of floats word.now other.now) result }
+    ensures read { IsSideRead (side_of floats word.now other.now) result }
+    ensures memory { Rises (IsErrOf result LineFault.OutOfMemory) room.old room.new }
 {
     if is_decimal_like(floats, word, other) {
         match decimal(word) {
@@ -134,7 +136,7 @@ fn side(
             None => Err(LineFault::Number),
         }
     } else {
-        Ok(Side::Operand(operand(alloc, word)?))
+        Ok(Side::Operand(operand(room, word)?))
     }
 }
 
@@ -154,21 +156,22 @@ fn is_condition(floats: Option<FloatFormat>, left: &str, sign: &str, right: &str
 // The condition that the three words are. Takes memory. S03 where a word is no side or no sign,
 // else E11.
 fn condition(
-    alloc: Global,
+    room: &mut Room,
     floats: Option<FloatFormat>,
     left: &str,
     sign: &str,
     right: &str,
 ) -> Result<Condition, LineFault>
-    ensures { IsConditionRead (condition_of floats left.now sign.now right.now) result }
+    ensures read { IsConditionRead (condition_of floats left.now sign.now right.now) result }
+    ensures memory { Rises (IsErrOf result LineFault.OutOfMemory) room.old room.new }
 {
     let comparison = comparison(sign).ok_or(LineFault::Number)?;
     // S03 of any word comes before E11.
     if !is_side(floats, right, left) {
         return Err(LineFault::Number);
     }
-    let left_side = side(alloc, floats, left, right)?;
-    let right_side = side(alloc, floats, right, left)?;
+    let left_side = side(room, floats, left, right)?;
+    let right_side = side(room, floats, right, left)?;
     Ok(Condition {
         left: left_side,
         comparison,
@@ -208,23 +211,24 @@ pub(crate) fn fault_without_memory(floats: Option<FloatFormat>, text: &str) -> L
 /// The conditions that the words of the text are, with a word between each two of them. Takes
 /// memory. S03 where one is none, else E11.
 pub(crate) fn conditions(
-    alloc: Global,
+    room: &mut Room,
     floats: Option<FloatFormat>,
     text: &str,
 ) -> Result<Items<Condition>, LineFault>
-    ensures { IsListRead (conditions_of floats (words_of text.now)) result }
+    ensures read { IsListRead (conditions_of floats (words_of text.now)) result }
+    ensures memory { Rises (IsErrOf result LineFault.OutOfMemory) room.old room.new }
 {
     // S03 of any word comes before E11.
     if !are_conditions(floats, text) {
         return Err(LineFault::Number);
     }
-    let mut conditions = Vec::new(alloc);
+    let mut conditions = Vec::new(room.alloc());
     let mut words = Words::new(text);
     'words: while let Some((left, sign, right)) = words.next_three() {
-        let condition = condition(alloc, floats, left, sign, right)?;
-        if conditions.push(condition).is_err() {
+        let condition = condition(room, floats, left, sign, right)?;
+        let Ok(()) = room.told_back(conditions.push(condition)) else {
             return Err(LineFault::OutOfMemory);
-        }
+        };
         match words.next() {
             None => return Ok(Items::new(conditions)),
             Some(_) => {}

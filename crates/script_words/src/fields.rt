@@ -1,5 +1,6 @@
 // Words that are places, and fields of a header.
-ghost use Rattle.std.specs.Prelude.{◌≡◌, is_some, IfOk, IfErr};
+ghost use Rattle.std.specs.Prelude.{◌≡◌, is_some, IfOk, IfErr, IsErrOf};
+ghost use Rattle.room.specs.Refusals.{Rises};
 ghost use Rattle.script_words.specs.Numbers.{place_of_word, place_in};
 ghost use Rattle.script_words.specs.Readers.{field_of, target_of};
 ghost use Rattle.script_words.specs.Commands.{IsFieldRead};
@@ -11,7 +12,7 @@ use crate::split::split_once;
 use bench_rules::{Field, Text};
 use field_map::Place;
 use num_order::Kind;
-use std::alloc::Global;
+use room::Room;
 
 /// The place that a word is: `@`, perhaps an extension and `.`, a byte, `:`, a size, perhaps `u`.
 pub(crate) fn place(word: &str) -> Option<Place>
@@ -44,11 +45,12 @@ fn place_from(extension: &[u8], text: &[u8]) -> Option<Place>
 }
 
 /// The text of some characters. Takes memory.
-pub(crate) fn text_of(alloc: Global, characters: &str) -> Result<Text, LineFault>
+pub(crate) fn text_of(room: &mut Room, characters: &str) -> Result<Text, LineFault>
     ensures ok { IfOk result (λ text. text ≡ characters.now) }
     ensures err { IfErr result (λ fault. fault ≡ no_memory) }
+    ensures memory { Rises (IsErrOf result LineFault.OutOfMemory) room.old room.new }
 {
-    match String::from_str(alloc, characters) {
+    match room.told(String::from_str(room.alloc(), characters)) {
         Ok(text) => Ok(Text::new(text)),
         Err(_) => Err(LineFault::OutOfMemory),
     }
@@ -56,8 +58,9 @@ pub(crate) fn text_of(alloc: Global, characters: &str) -> Result<Text, LineFault
 
 /// The field that a word is: a place where it begins with `@`, else a name. Refused: S03, or E11
 /// for a name.
-pub(crate) fn field(alloc: Global, word: &str) -> Result<Field, LineFault>
-    ensures { IsFieldRead (field_of word.now) result }
+pub(crate) fn field(room: &mut Room, word: &str) -> Result<Field, LineFault>
+    ensures read { IsFieldRead (field_of word.now) result }
+    ensures memory { Rises (IsErrOf result LineFault.OutOfMemory) room.old room.new }
 {
     if word.as_bytes().starts_with(b"@") {
         match place(word) {
@@ -65,19 +68,20 @@ pub(crate) fn field(alloc: Global, word: &str) -> Result<Field, LineFault>
             None => Err(LineFault::Number),
         }
     } else {
-        Ok(Field::Name(text_of(alloc, word)?))
+        Ok(Field::Name(text_of(room, word)?))
     }
 }
 
 /// The field that a name is bound to: any field, but no name that begins as a number does. Refused:
 /// S03, or E11 for a name.
-pub(crate) fn target(alloc: Global, word: &str) -> Result<Field, LineFault>
-    ensures { IsFieldRead (target_of word.now) result }
+pub(crate) fn target(room: &mut Room, word: &str) -> Result<Field, LineFault>
+    ensures read { IsFieldRead (target_of word.now) result }
+    ensures memory { Rises (IsErrOf result LineFault.OutOfMemory) room.old room.new }
 {
     if is_number_like(word) {
         return Err(LineFault::Number);
     }
-    field(alloc, word)
+    field(room, word)
 }
 
 /// Whether the word is a field.

@@ -1,5 +1,6 @@
 // The command that binds a name, or several at once.
-ghost use Rattle.std.specs.Prelude.{◌≡◌};
+ghost use Rattle.std.specs.Prelude.{◌≡◌, IsErrOf};
+ghost use Rattle.room.specs.Refusals.{Rises};
 ghost use Rattle.script_words.specs.Commands.{IsRead};
 ghost use Rattle.script_words.specs.MapCommands.{mapping_in, read_map};
 ghost use Rattle.script_words.specs.Words.{words_of};
@@ -9,14 +10,15 @@ use crate::line_fault::LineFault;
 use crate::parse::{map_name, one};
 use crate::words::Words;
 use bench_rules::{Edit, Mapping};
-use std::alloc::Global;
+use room::Room;
 
-pub(crate) fn map(alloc: Global, words: Words) -> Result<Command, LineFault>
-    ensures { IsRead (read_map (words_of words.entry)) result }
+pub(crate) fn map(room: &mut Room, words: Words) -> Result<Command, LineFault>
+    ensures read { IsRead (read_map (words_of words.entry)) result }
+    ensures memory { Rises (IsErrOf result LineFault.OutOfMemory) room.old room.new }
 {
     match mapping(words.rest()) {
         Some(mapping) => Ok(Command::Apply(Edit::MapAs(mapping))),
-        None => map_name(alloc, words),
+        None => map_name(room, words),
     }
 }
 

@@ -1,5 +1,5 @@
 // The command that moves a trace, or a block of them.
-ghost use Rattle.std.specs.Prelude.{◌≡◌};
+ghost use Rattle.std.specs.Prelude.{◌≡◌, IfErr, ◌≢◌};
 ghost use Rattle.script_words.specs.MoveCommands.{block_place_of, read_move, read_move_block, read_move_one};
 ghost use Rattle.script_words.specs.Words.{words_of};
 
@@ -11,7 +11,8 @@ use crate::words::{Words, is_all, number_of_words};
 use bench_rules::Edit;
 
 pub(crate) fn move_traces(traces: u32, words: Words) -> Result<Command, LineFault>
-    ensures { result ≡ read_move traces (words_of words.entry) }
+    ensures read { result ≡ read_move traces (words_of words.entry) }
+    ensures other { IfErr result (λ fault. fault ≢ LineFault.OutOfMemory) }
 {
     if number_of_words(words.rest(), 4) == 3 && !is_all(words.rest()) {
         move_block(traces, words)
@@ -21,7 +22,8 @@ pub(crate) fn move_traces(traces: u32, words: Words) -> Result<Command, LineFaul
 }
 
 fn move_one(traces: u32, words: Words) -> Result<Command, LineFault>
-    ensures { result ≡ read_move_one traces (words_of words.entry) }
+    ensures read { result ≡ read_move_one traces (words_of words.entry) }
+    ensures other { IfErr result (λ fault. fault ≢ LineFault.OutOfMemory) }
 {
     let (a, b) = two(words).ok_or(LineFault::Words)?;
     let a = trace(traces, a).ok_or(LineFault::Number)?;
@@ -30,7 +32,8 @@ fn move_one(traces: u32, words: Words) -> Result<Command, LineFault>
 }
 
 fn move_block(traces: u32, words: Words) -> Result<Command, LineFault>
-    ensures { result ≡ read_move_block traces (words_of words.entry) }
+    ensures read { result ≡ read_move_block traces (words_of words.entry) }
+    ensures other { IfErr result (λ fault. fault ≢ LineFault.OutOfMemory) }
 {
     let (a, b, to) = three(words).ok_or(LineFault::Words)?;
     let a = trace(traces, a).ok_or(LineFault::Number)?;

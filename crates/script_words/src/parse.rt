@@ -1,5 +1,6 @@
 // A line of a script into a command.
-ghost use Rattle.std.specs.Prelude.{◌≡◌, ◌≢◌, ◌∷◌, [], length, IfSome, IfNone};
+ghost use Rattle.std.specs.Prelude.{◌≡◌, ◌≢◌, ◌∷◌, [], length, IfSome, IfNone, IsErrOf, IfErr};
+ghost use Rattle.room.specs.Refusals.{Rises};
 ghost use Rattle.script_words.specs.Words.{words_of};
 ghost use Rattle.script_words.specs.declared.command.Command.TheVariants.{Ask as ask};
 ghost use Rattle.script_words.specs.Ranges.{spelled};
@@ -20,7 +21,7 @@ use crate::trace_commands::{blank, copy, patch, resize};
 use crate::words::Words;
 use bench_rules::{Edit, Query};
 use float_codes::FloatFormat;
-use std::alloc::Global;
+use room::Room;
 use std::str;
 
 /// The command of one line of a script, given without its line feed and the carriage return that is
@@ -33,12 +34,13 @@ use std::str;
 /// more, and `all` stands for the two words of a range. Takes memory only where the command holds a
 /// text, a name or a list, and is E11 without.
 pub fn parse_line(
-    alloc: Global,
+    room: &mut Room,
     floats: Option<FloatFormat>,
     traces: u32,
     line: &[u8],
 ) -> Result<Option<Command>, LineFault>
-    ensures { IsParsed floats traces line.now result }
+    ensures read { IsParsed floats traces line.now result }
+    ensures memory { Rises (IsErrOf result LineFault.OutOfMemory) room.old room.new }
 {
     let Ok(text) = str::from_utf8(line) else {
         return Err(LineFault::NotText);
@@ -47,74 +49,79 @@ pub fn parse_line(
     match words.next() {
         None => Ok(None),
         Some(word) if word.as_bytes().starts_with(b"#") => Ok(None),
-        Some(word) => Ok(Some(command(alloc, floats, traces, word, words)?)),
+        Some(word) => Ok(Some(command(room, floats, traces, word, words)?)),
     }
 }
 
 // The command of a word and of what stands behind it.
 fn command(
-    alloc: Global,
+    room: &mut Room,
     floats: Option<FloatFormat>,
     traces: u32,
     word: &str,
     words: Words,
 ) -> Result<Command, LineFault>
-    ensures { IsRead (command_of floats traces word.now words.entry) result }
+    ensures read { IsRead (command_of floats traces word.now words.entry) result }
+    ensures memory { Rises (IsErrOf result LineFault.OutOfMemory) room.old room.new }
 {
     match word {
-        "get" => get(alloc, traces, words),
-        "bin" => bin(alloc, words),
-        "getbin" => getbin(alloc, words),
+        "get" => get(room, traces, words),
+        "bin" => bin(room, words),
+        "getbin" => getbin(room, words),
         "declare" => declare(words),
         "drop" => drop_tail(words),
-        "text" => text(alloc, words),
+        "text" => text(room, words),
         "line" => line(words),
         "lines" => lines(words),
         "code" => code(words),
         "stanzas" => query_alone(words, Query::Stanzas),
-        "map" => map(alloc, words),
-        "unmap" => unmap(alloc, words),
+        "map" => map(room, words),
+        "unmap" => unmap(room, words),
         "fields" => query_alone(words, Query::Fields),
         "info" => query_alone(words, Query::Info),
         "sample" => sample(traces, words),
-        "patch" => patch(alloc, floats, traces, words),
-        "fill" => ranged(alloc, floats, traces, RangeCommand::Fill(floats), words),
+        "patch" => patch(room, floats, traces, words),
+        "fill" => ranged(room, floats, traces, RangeCommand::Fill(floats), words),
         "blank" => blank(traces, words),
         "copy" => copy(traces, words),
         "move" => move_traces(traces, words),
         "resize" => resize(traces, words),
-        _ => of_headers(alloc, floats, traces, word, words),
+        _ => of_headers(room, floats, traces, word, words),
     }
 }
 
-fn get(alloc: Global, traces: u32, words: Words) -> Result<Command, LineFault>
-    ensures { IsRead (read_get traces (words_of words.entry)) result }
+fn get(room: &mut Room, traces: u32, words: Words) -> Result<Command, LineFault>
+    ensures read { IsRead (read_get traces (words_of words.entry)) result }
+    ensures memory { Rises (IsErrOf result LineFault.OutOfMemory) room.old room.new }
 {
     let (p, at) = two(words).ok_or(LineFault::Words)?;
     let p = trace(traces, p).ok_or(LineFault::Number)?;
-    let at = field(alloc, at)?;
+    let at = field(room, at)?;
     Ok(Command::Ask(Query::Get(p, at)))
 }
 
-fn bin(alloc: Global, words: Words) -> Result<Command, LineFault>
-    ensures { IsRead (read_bin (words_of words.entry)) result }
+fn bin(room: &mut Room, words: Words) -> Result<Command, LineFault>
+    ensures read { IsRead (read_bin (words_of words.entry)) result }
+    ensures memory { Rises (IsErrOf result LineFault.OutOfMemory) room.old room.new }
 {
     let (at, value) = two(words).ok_or(LineFault::Words)?;
     let value = number(value).ok_or(LineFault::Number)?;
-    let at = field(alloc, at)?;
+    let at = field(room, at)?;
     Ok(Command::Apply(Edit::SetBin(at, value)))
 }
 
-fn getbin(alloc: Global, words: Words) -> Result<Command, LineFault>
-    ensures { IsRead (read_getbin (words_of words.entry)) result }
+fn getbin(room: &mut Room, words: Words) -> Result<Command, LineFault>
+    ensures read { IsRead (read_getbin (words_of words.entry)) result }
+    ensures memory { Rises (IsErrOf result LineFault.OutOfMemory) room.old room.new }
 {
     let at = one(words).ok_or(LineFault::Words)?;
-    let at = field(alloc, at)?;
+    let at = field(room, at)?;
     Ok(Command::Ask(Query::GetBin(at)))
 }
 
 fn declare(mut words: Words) -> Result<Command, LineFault>
-    ensures { result ≡ read_declare (words_of words.entry) }
+    ensures read { result ≡ read_declare (words_of words.entry) }
+    ensures other { IfErr result (λ fault. fault ≢ LineFault.OutOfMemory) }
 {
     if words.next().is_some() {
         return Err(LineFault::Words);
@@ -123,7 +130,8 @@ fn declare(mut words: Words) -> Result<Command, LineFault>
 }
 
 fn drop_tail(words: Words) -> Result<Command, LineFault>
-    ensures { result ≡ read_drop (words_of words.entry) }
+    ensures read { result ≡ read_drop (words_of words.entry) }
+    ensures other { IfErr result (λ fault. fault ≢ LineFault.OutOfMemory) }
 {
     let what = one(words).ok_or(LineFault::Words)?;
     if what != "tail" {
@@ -132,17 +140,19 @@ fn drop_tail(words: Words) -> Result<Command, LineFault>
     Ok(Command::Apply(Edit::DropTail))
 }
 
-fn text(alloc: Global, mut words: Words) -> Result<Command, LineFault>
-    ensures { IsRead (read_text words.entry (words_of words.entry)) result }
+fn text(room: &mut Room, mut words: Words) -> Result<Command, LineFault>
+    ensures read { IsRead (read_text words.entry (words_of words.entry)) result }
+    ensures memory { Rises (IsErrOf result LineFault.OutOfMemory) room.old room.new }
 {
     let q = words.next().ok_or(LineFault::Words)?;
     let q = position(q).ok_or(LineFault::Number)?;
-    let text = text_of(alloc, words.text_behind())?;
+    let text = text_of(room, words.text_behind())?;
     Ok(Command::Apply(Edit::SetText(q, text)))
 }
 
 fn line(words: Words) -> Result<Command, LineFault>
-    ensures { result ≡ read_line (words_of words.entry) }
+    ensures read { result ≡ read_line (words_of words.entry) }
+    ensures other { IfErr result (λ fault. fault ≢ LineFault.OutOfMemory) }
 {
     let (b, q) = two(words).ok_or(LineFault::Words)?;
     let b = position(b).ok_or(LineFault::Number)?;
@@ -151,7 +161,8 @@ fn line(words: Words) -> Result<Command, LineFault>
 }
 
 fn lines(words: Words) -> Result<Command, LineFault>
-    ensures { result ≡ read_lines (words_of words.entry) }
+    ensures read { result ≡ read_lines (words_of words.entry) }
+    ensures other { IfErr result (λ fault. fault ≢ LineFault.OutOfMemory) }
 {
     let b = one(words).ok_or(LineFault::Words)?;
     let b = position(b).ok_or(LineFault::Number)?;
@@ -159,33 +170,37 @@ fn lines(words: Words) -> Result<Command, LineFault>
 }
 
 fn code(words: Words) -> Result<Command, LineFault>
-    ensures { result ≡ read_code (words_of words.entry) }
+    ensures read { result ≡ read_code (words_of words.entry) }
+    ensures other { IfErr result (λ fault. fault ≢ LineFault.OutOfMemory) }
 {
     let b = one(words).ok_or(LineFault::Words)?;
     let b = position(b).ok_or(LineFault::Number)?;
     Ok(Command::Ask(Query::Code(b)))
 }
 
-pub(crate) fn map_name(alloc: Global, words: Words) -> Result<Command, LineFault>
-    ensures { IsRead (read_map_name (words_of words.entry)) result }
+pub(crate) fn map_name(room: &mut Room, words: Words) -> Result<Command, LineFault>
+    ensures read { IsRead (read_map_name (words_of words.entry)) result }
+    ensures memory { Rises (IsErrOf result LineFault.OutOfMemory) room.old room.new }
 {
     let (name, at) = two(words).ok_or(LineFault::Words)?;
     // S03 of any word comes before E11.
-    let at = target(alloc, at)?;
-    let name = text_of(alloc, name)?;
+    let at = target(room, at)?;
+    let name = text_of(room, name)?;
     Ok(Command::Apply(Edit::Map(name, at)))
 }
 
-fn unmap(alloc: Global, words: Words) -> Result<Command, LineFault>
-    ensures { IsRead (read_unmap (words_of words.entry)) result }
+fn unmap(room: &mut Room, words: Words) -> Result<Command, LineFault>
+    ensures read { IsRead (read_unmap (words_of words.entry)) result }
+    ensures memory { Rises (IsErrOf result LineFault.OutOfMemory) room.old room.new }
 {
     let name = one(words).ok_or(LineFault::Words)?;
-    let name = text_of(alloc, name)?;
+    let name = text_of(room, name)?;
     Ok(Command::Apply(Edit::Unmap(name)))
 }
 
 fn sample(traces: u32, words: Words) -> Result<Command, LineFault>
-    ensures { result ≡ read_sample traces (words_of words.entry) }
+    ensures read { result ≡ read_sample traces (words_of words.entry) }
+    ensures other { IfErr result (λ fault. fault ≢ LineFault.OutOfMemory) }
 {
     let (p, k) = two(words).ok_or(LineFault::Words)?;
     let p = trace(traces, p).ok_or(LineFault::Number)?;
@@ -195,7 +210,8 @@ fn sample(traces: u32, words: Words) -> Result<Command, LineFault>
 
 // The query, where no words follow its own.
 pub(crate) fn query_alone(mut words: Words, query: Query) -> Result<Command, LineFault>
-    ensures { result ≡ alone (ask query) (words_of words.entry) }
+    ensures read { result ≡ alone (ask query) (words_of words.entry) }
+    ensures other { IfErr result (λ fault. fault ≢ LineFault.OutOfMemory) }
 {
     match words.next() {
         Some(_) => Err(LineFault::Words),

@@ -1,5 +1,6 @@
 // The commands on a range of traces, with conditions behind `where` or without.
-ghost use Rattle.std.specs.Prelude.{◌≡◌, [], true};
+ghost use Rattle.std.specs.Prelude.{◌≡◌, [], true, IsErrOf};
+ghost use Rattle.room.specs.Refusals.{Rises};
 ghost use Rattle.script_words.specs.Words.{words_of};
 ghost use Rattle.script_words.specs.Ranges.{spelled, is_of_none as are_of_none, of_range as read_of_range, of_conditions, under as under_conditions};
 ghost use Rattle.script_words.specs.HeaderCommands.{read_sort};
@@ -23,45 +24,48 @@ use crate::swap_command::swap_each;
 use crate::words::{Words, is_all, number_of_words};
 use bench_rules::{Items, Query};
 use float_codes::FloatFormat;
+use room::Room;
 use std::alloc::Global;
 
 /// The command, with conditions or without, which may have decimals where samples are floats, whose
 /// format comes first. Of the words in front of the conditions and of those
 /// of the conditions, wrong numbers of both come before what any of them is.
 pub(crate) fn ranged(
-    alloc: Global,
+    room: &mut Room,
     floats: Option<FloatFormat>,
     traces: u32,
     which: RangeCommand,
     words: Words,
 ) -> Result<Command, LineFault>
-    ensures { IsRead (read_ranged floats traces which (words_of words.entry)) result }
+    ensures read { IsRead (read_ranged floats traces which (words_of words.entry)) result }
+    ensures memory { Rises (IsErrOf result LineFault.OutOfMemory) room.old room.new }
 {
     match split_where(words.rest()) {
-        Some((front, behind)) => with_conditions(alloc, floats, traces, which, front, behind),
-        None => plain(alloc, traces, which, words),
+        Some((front, behind)) => with_conditions(room, floats, traces, which, front, behind),
+        None => plain(room, traces, which, words),
     }
 }
 
 // The command of what stands in front of `where`, on the traces that meet the conditions behind
 // it.
 fn with_conditions(
-    alloc: Global,
+    room: &mut Room,
     floats: Option<FloatFormat>,
     traces: u32,
     which: RangeCommand,
     front: &str,
     behind: &str,
 ) -> Result<Command, LineFault>
-    ensures { IsRead (of_conditions floats traces (read_each traces which)
+    ensures read { IsRead (of_conditions floats traces (read_each traces which)
         (words_of front.now) (words_of behind.now)) result }
+    ensures memory { Rises (IsErrOf result LineFault.OutOfMemory) room.old room.new }
 {
     if !has_conditions(behind) {
         return Err(LineFault::Words);
     }
-    match each(alloc, traces, which, Words::new(front)) {
+    match each(room, traces, which, Words::new(front)) {
         Ok(command) => {
-            let conditions = conditions(alloc, floats, behind)?;
+            let conditions = conditions(room, floats, behind)?;
             Ok(under(is_of_none(traces, front), conditions, command))
         }
         Err(LineFault::OutOfMemory) => Err(fault_without_memory(floats, behind)),
@@ -77,39 +81,46 @@ fn is_of_none(traces: u32, text: &str) -> bool
 }
 
 // The command, where two words or `all` tell its range.
-fn each(alloc: Global, traces: u32, which: RangeCommand, words: Words) -> Result<Command, LineFault>
-    ensures { IsRead (read_each traces which (spelled (words_of words.entry))) result }
+fn each(
+    room: &mut Room,
+    traces: u32,
+    which: RangeCommand,
+    words: Words,
+) -> Result<Command, LineFault>
+    ensures read { IsRead (read_each traces which (spelled (words_of words.entry))) result }
+    ensures memory { Rises (IsErrOf result LineFault.OutOfMemory) room.old room.new }
 {
     match which {
-        RangeCommand::Table => table(alloc, traces, words),
-        RangeCommand::Find => find(alloc, traces, words),
+        RangeCommand::Table => table(room, traces, words),
+        RangeCommand::Find => find(room, traces, words),
         RangeCommand::Extremes => extremes(traces, words),
-        RangeCommand::Set => set_each(alloc, traces, words),
-        RangeCommand::Renumber => renumber(alloc, traces, words),
-        RangeCommand::Compute => compute(alloc, traces, words),
-        RangeCommand::Delete => delete_each(alloc, traces, words),
-        RangeCommand::Count => count_each(alloc, traces, words),
-        RangeCommand::Stats => stats_each(alloc, traces, words),
-        RangeCommand::Swap => swap_each(alloc, traces, words),
-        RangeCommand::Samples => samples_each(alloc, traces, words),
-        RangeCommand::Fill(floats) => fill_each(alloc, floats, traces, words),
+        RangeCommand::Set => set_each(room, traces, words),
+        RangeCommand::Renumber => renumber(room, traces, words),
+        RangeCommand::Compute => compute(room, traces, words),
+        RangeCommand::Delete => delete_each(room, traces, words),
+        RangeCommand::Count => count_each(room, traces, words),
+        RangeCommand::Stats => stats_each(room, traces, words),
+        RangeCommand::Swap => swap_each(room, traces, words),
+        RangeCommand::Samples => samples_each(room, traces, words),
+        RangeCommand::Fill(floats) => fill_each(room, floats, traces, words),
     }
 }
 
 // The same without conditions: in a file without traces, `all` is a range of none.
 fn of_range(
-    alloc: Global,
+    room: &mut Room,
     traces: u32,
     which: RangeCommand,
     words: Words,
 ) -> Result<Command, LineFault>
-    ensures { IsRead (read_of_range traces (read_each traces which)
+    ensures read { IsRead (read_of_range traces (read_each traces which)
         (words_of words.entry)) result }
+    ensures memory { Rises (IsErrOf result LineFault.OutOfMemory) room.old room.new }
 {
     let none = is_of_none(traces, words.rest());
-    let command = each(alloc, traces, which, words)?;
+    let command = each(room, traces, which, words)?;
     Ok(if none {
-        of_none(alloc, command)
+        of_none(room.alloc(), command)
     } else {
         command
     })
@@ -123,49 +134,53 @@ fn of_none(alloc: Global, command: Command) -> Command
 
 // The command without conditions.
 fn plain(
-    alloc: Global,
+    room: &mut Room,
     traces: u32,
     which: RangeCommand,
     words: Words,
 ) -> Result<Command, LineFault>
-    ensures { IsRead (read_plain traces which (words_of words.entry)) result }
+    ensures read { IsRead (read_plain traces which (words_of words.entry)) result }
+    ensures memory { Rises (IsErrOf result LineFault.OutOfMemory) room.old room.new }
 {
     match which {
-        RangeCommand::Set => set(alloc, traces, words),
-        RangeCommand::Delete => delete(alloc, traces, words),
+        RangeCommand::Set => set(room, traces, words),
+        RangeCommand::Delete => delete(room, traces, words),
         RangeCommand::Count => query_alone(words, Query::Count),
-        _ => of_range(alloc, traces, which, words),
+        _ => of_range(room, traces, which, words),
     }
 }
 
-fn set(alloc: Global, traces: u32, words: Words) -> Result<Command, LineFault>
-    ensures { IsRead (read_set traces (words_of words.entry)) result }
+fn set(room: &mut Room, traces: u32, words: Words) -> Result<Command, LineFault>
+    ensures read { IsRead (read_set traces (words_of words.entry)) result }
+    ensures memory { Rises (IsErrOf result LineFault.OutOfMemory) room.old room.new }
 {
     if is_all(words.rest()) || number_of_words(words.rest(), 5) == 4 {
-        of_range(alloc, traces, RangeCommand::Set, words)
+        of_range(room, traces, RangeCommand::Set, words)
     } else {
-        set_one(alloc, traces, words)
+        set_one(room, traces, words)
     }
 }
 
-fn delete(alloc: Global, traces: u32, words: Words) -> Result<Command, LineFault>
-    ensures { IsRead (read_delete traces (words_of words.entry)) result }
+fn delete(room: &mut Room, traces: u32, words: Words) -> Result<Command, LineFault>
+    ensures read { IsRead (read_delete traces (words_of words.entry)) result }
+    ensures memory { Rises (IsErrOf result LineFault.OutOfMemory) room.old room.new }
 {
     if is_all(words.rest()) || number_of_words(words.rest(), 3) == 2 {
-        of_range(alloc, traces, RangeCommand::Delete, words)
+        of_range(room, traces, RangeCommand::Delete, words)
     } else {
         delete_one(traces, words)
     }
 }
 
 /// Traces in order, which no conditions choose.
-pub(crate) fn sort(alloc: Global, traces: u32, words: Words) -> Result<Command, LineFault>
-    ensures { IsRead (read_of_range traces (read_sort traces) (words_of words.entry)) result }
+pub(crate) fn sort(room: &mut Room, traces: u32, words: Words) -> Result<Command, LineFault>
+    ensures read { IsRead (read_of_range traces (read_sort traces) (words_of words.entry)) result }
+    ensures memory { Rises (IsErrOf result LineFault.OutOfMemory) room.old room.new }
 {
     let none = is_of_none(traces, words.rest());
-    let command = sort_each(alloc, traces, words)?;
+    let command = sort_each(room, traces, words)?;
     Ok(if none {
-        of_none(alloc, command)
+        of_none(room.alloc(), command)
     } else {
         command
     })

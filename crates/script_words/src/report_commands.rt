@@ -1,5 +1,5 @@
 // The queries about the survey and its samples.
-ghost use Rattle.std.specs.Prelude.{◌≡◌, bytes_eq};
+ghost use Rattle.std.specs.Prelude.{◌≡◌, bytes_eq, IfErr, ◌≢◌};
 ghost use Rattle.std.specs.Map.{lookup};
 ghost use Rattle.script_words.specs.Words.{words_of};
 ghost use Rattle.script_words.specs.Readers.{quantity_of};
@@ -16,8 +16,9 @@ use range_stats::Quantity;
 
 // The query of a report's word and of the words behind it; S01 for any other word.
 pub(crate) fn report(traces: u32, word: &str, words: Words) -> Result<Command, LineFault>
-    ensures { result ≡ read_by (lookup (bytes_eq word.now) (report_commands traces))
+    ensures read { result ≡ read_by (lookup (bytes_eq word.now) (report_commands traces))
         (words_of words.entry) }
+    ensures other { IfErr result (λ fault. fault ≢ LineFault.OutOfMemory) }
 {
     match word {
         "geometry" => geometry(traces, words),
@@ -38,7 +39,8 @@ pub(crate) fn report(traces: u32, word: &str, words: Words) -> Result<Command, L
 }
 
 fn geometry(traces: u32, words: Words) -> Result<Command, LineFault>
-    ensures { result ≡ read_geometry traces (words_of words.entry) }
+    ensures read { result ≡ read_geometry traces (words_of words.entry) }
+    ensures other { IfErr result (λ fault. fault ≢ LineFault.OutOfMemory) }
 {
     let p = one(words).ok_or(LineFault::Words)?;
     let p = trace(traces, p).ok_or(LineFault::Number)?;
@@ -46,7 +48,8 @@ fn geometry(traces: u32, words: Words) -> Result<Command, LineFault>
 }
 
 fn stat(traces: u32, words: Words) -> Result<Command, LineFault>
-    ensures { result ≡ read_stat traces (words_of words.entry) }
+    ensures read { result ≡ read_stat traces (words_of words.entry) }
+    ensures other { IfErr result (λ fault. fault ≢ LineFault.OutOfMemory) }
 {
     let p = one(words).ok_or(LineFault::Words)?;
     let p = trace(traces, p).ok_or(LineFault::Number)?;
@@ -54,7 +57,8 @@ fn stat(traces: u32, words: Words) -> Result<Command, LineFault>
 }
 
 fn fold(words: Words) -> Result<Command, LineFault>
-    ensures { result ≡ read_fold (words_of words.entry) }
+    ensures read { result ≡ read_fold (words_of words.entry) }
+    ensures other { IfErr result (λ fault. fault ≢ LineFault.OutOfMemory) }
 {
     let (inline, crossline) = two(words).ok_or(LineFault::Words)?;
     let inline = number(inline).ok_or(LineFault::Number)?;
@@ -63,7 +67,8 @@ fn fold(words: Words) -> Result<Command, LineFault>
 }
 
 fn range(words: Words) -> Result<Command, LineFault>
-    ensures { result ≡ read_range (words_of words.entry) }
+    ensures read { result ≡ read_range (words_of words.entry) }
+    ensures other { IfErr result (λ fault. fault ≢ LineFault.OutOfMemory) }
 {
     let which = one(words).ok_or(LineFault::Words)?;
     let which = quantity(which).ok_or(LineFault::Number)?;
@@ -71,7 +76,8 @@ fn range(words: Words) -> Result<Command, LineFault>
 }
 
 fn slice(words: Words) -> Result<Command, LineFault>
-    ensures { result ≡ read_slice (words_of words.entry) }
+    ensures read { result ≡ read_slice (words_of words.entry) }
+    ensures other { IfErr result (λ fault. fault ≢ LineFault.OutOfMemory) }
 {
     let k = one(words).ok_or(LineFault::Words)?;
     let k = position(k).ok_or(LineFault::Number)?;

@@ -1,5 +1,6 @@
 // The command that puts traces in order.
-ghost use Rattle.std.specs.Prelude.{◌≡◌, is_some, map, IfOk, IfErr};
+ghost use Rattle.std.specs.Prelude.{◌≡◌, is_some, map, IfOk, IfErr, IsErrOf};
+ghost use Rattle.room.specs.Refusals.{Rises};
 ghost use Rattle.script_words.specs.declared.line_fault.LineFault.TheVariants.{OutOfMemory as no_memory};
 ghost use Rattle.script_words.specs.Words.{words_of};
 ghost use Rattle.script_words.specs.Ranges.{spelled};
@@ -12,10 +13,15 @@ use crate::line_fault::LineFault;
 use crate::numbers::trace;
 use crate::words::{Words, number_of_words};
 use bench_rules::{Edit, Field, Items};
-use std::alloc::Global;
+use room::Room;
 
-pub(crate) fn sort_each(alloc: Global, traces: u32, mut words: Words) -> Result<Command, LineFault>
-    ensures { IsRead (read_sort traces (spelled (words_of words.entry))) result }
+pub(crate) fn sort_each(
+    room: &mut Room,
+    traces: u32,
+    mut words: Words,
+) -> Result<Command, LineFault>
+    ensures read { IsRead (read_sort traces (spelled (words_of words.entry))) result }
+    ensures memory { Rises (IsErrOf result LineFault.OutOfMemory) room.old room.new }
 {
     let (a, b) = words.range().ok_or(LineFault::Words)?;
     let rest = words.rest();
@@ -25,8 +31,8 @@ pub(crate) fn sort_each(alloc: Global, traces: u32, mut words: Words) -> Result<
     }
     let a = trace(traces, a).ok_or(LineFault::Number)?;
     let b = trace(traces, b).ok_or(LineFault::Number)?;
-    let fields = sorted_fields(alloc, rest)?;
-    let falling = falling(alloc, rest)?;
+    let fields = sorted_fields(room, rest)?;
+    let falling = falling(room, rest)?;
     Ok(Command::Apply(Edit::Sort {
         first_trace: a,
         last_trace: b,
@@ -70,35 +76,37 @@ fn are_sorted_fields(text: &str) -> bool
 
 // The fields that the words of the text are, with `-` in front of them or without. Takes memory.
 // S03 where a word is no field, else E11.
-fn sorted_fields(alloc: Global, text: &str) -> Result<Items<Field>, LineFault>
-    ensures { IsListRead (sorted_fields_of (words_of text.now)) result }
+fn sorted_fields(room: &mut Room, text: &str) -> Result<Items<Field>, LineFault>
+    ensures read { IsListRead (sorted_fields_of (words_of text.now)) result }
+    ensures memory { Rises (IsErrOf result LineFault.OutOfMemory) room.old room.new }
 {
     // S03 of any word comes before E11.
     if !are_sorted_fields(text) {
         return Err(LineFault::Number);
     }
-    let mut fields = Vec::new(alloc);
+    let mut fields = Vec::new(room.alloc());
     let mut words = Words::new(text);
     'words: while let Some(word) = words.next() {
-        let at = field(alloc, without_sign(word))?;
-        if fields.push(at).is_err() {
+        let at = field(room, without_sign(word))?;
+        let Ok(()) = room.told_back(fields.push(at)) else {
             return Err(LineFault::OutOfMemory);
-        }
+        };
     }
     Ok(Items::new(fields))
 }
 
 // For each word of the text, whether the numbers of its field are to fall. Takes memory.
-fn falling(alloc: Global, text: &str) -> Result<Items<bool>, LineFault>
+fn falling(room: &mut Room, text: &str) -> Result<Items<bool>, LineFault>
     ensures ok { IfOk result (λ falls. falls ≡ map is_falling_word (words_of text.now)) }
     ensures err { IfErr result (λ fault. fault ≡ no_memory) }
+    ensures memory { Rises (IsErrOf result LineFault.OutOfMemory) room.old room.new }
 {
-    let mut falling = Vec::new(alloc);
+    let mut falling = Vec::new(room.alloc());
     let mut words = Words::new(text);
     'words: while let Some(word) = words.next() {
-        if falling.push(is_falling(word.as_bytes())).is_err() {
+        let Ok(()) = room.told_back(falling.push(is_falling(word.as_bytes()))) else {
             return Err(LineFault::OutOfMemory);
-        }
+        };
     }
     Ok(Items::new(falling))
 }

@@ -1,5 +1,6 @@
 // The command that puts two fields in the place of one another.
-ghost use Rattle.std.specs.Prelude.{◌≡◌, Some, []};
+ghost use Rattle.std.specs.Prelude.{◌≡◌, Some, [], IsErrOf};
+ghost use Rattle.room.specs.Refusals.{Rises};
 ghost use Rattle.bench_rules.specs.declared.chosen_edit.ChosenEdit.TheVariants.{Swap as swap_of};
 ghost use Rattle.bench_rules.specs.declared.edit.Edit.TheVariants.{OfChosen as edit_of_chosen};
 ghost use Rattle.script_words.specs.declared.command.Command.TheVariants.{Apply as apply};
@@ -15,10 +16,12 @@ use crate::numbers::trace;
 use crate::parse::range_and_two;
 use crate::words::Words;
 use bench_rules::{Chosen, ChosenEdit, Edit, Field, Items};
+use room::Room;
 use std::alloc::Global;
 
-pub(crate) fn swap_each(alloc: Global, traces: u32, words: Words) -> Result<Command, LineFault>
-    ensures { IsRead (read_swap traces (spelled (words_of words.entry))) result }
+pub(crate) fn swap_each(room: &mut Room, traces: u32, words: Words) -> Result<Command, LineFault>
+    ensures read { IsRead (read_swap traces (spelled (words_of words.entry))) result }
+    ensures memory { Rises (IsErrOf result LineFault.OutOfMemory) room.old room.new }
 {
     let (a, b, first, second) = range_and_two(words).ok_or(LineFault::Words)?;
     let a = trace(traces, a).ok_or(LineFault::Number)?;
@@ -27,9 +30,9 @@ pub(crate) fn swap_each(alloc: Global, traces: u32, words: Words) -> Result<Comm
     if !is_field(first) || !is_field(second) {
         return Err(LineFault::Number);
     }
-    let first = field(alloc, first)?;
-    let second = field(alloc, second)?;
-    Ok(swap(alloc, a, b, first, second))
+    let first = field(room, first)?;
+    let second = field(room, second)?;
+    Ok(swap(room.alloc(), a, b, first, second))
 }
 
 // The edit that puts the two fields of traces a to b in the place of one another.

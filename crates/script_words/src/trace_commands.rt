@@ -1,5 +1,6 @@
 // The commands on samples and on whole traces.
-ghost use Rattle.std.specs.Prelude.{◌≡◌, is_some, if◌then◌else◌};
+ghost use Rattle.std.specs.Prelude.{◌≡◌, is_some, if◌then◌else◌, IsErrOf, IfErr, ◌≢◌};
+ghost use Rattle.room.specs.Refusals.{Rises};
 ghost use Rattle.script_words.specs.declared.line_fault.LineFault.TheVariants.{OutOfMemory as no_memory, Number as no_number};
 ghost use Rattle.script_words.specs.Words.{words_of};
 ghost use Rattle.script_words.specs.Readers.{numbers_of};
@@ -12,17 +13,18 @@ use crate::parse::{one, two};
 use crate::words::Words;
 use bench_rules::{Edit, Items};
 use float_codes::FloatFormat;
-use std::alloc::Global;
+use room::Room;
 
 /// The values of samples that are floats, of the format that comes first where they are, may be
 /// decimals.
 pub(crate) fn patch(
-    alloc: Global,
+    room: &mut Room,
     floats: Option<FloatFormat>,
     traces: u32,
     mut words: Words,
 ) -> Result<Command, LineFault>
-    ensures { IsRead (read_patch floats traces (words_of words.entry)) result }
+    ensures read { IsRead (read_patch floats traces (words_of words.entry)) result }
+    ensures memory { Rises (IsErrOf result LineFault.OutOfMemory) room.old room.new }
 {
     let p = words.next().ok_or(LineFault::Words)?;
     let k = words.next().ok_or(LineFault::Words)?;
@@ -32,12 +34,13 @@ pub(crate) fn patch(
     }
     let p = trace(traces, p).ok_or(LineFault::Number)?;
     let k = position(k).ok_or(LineFault::Number)?;
-    let values = numbers(alloc, floats, values)?;
+    let values = numbers(room, floats, values)?;
     Ok(Command::Apply(Edit::Patch(p, k, values)))
 }
 
 pub(crate) fn blank(traces: u32, words: Words) -> Result<Command, LineFault>
-    ensures { result ≡ read_blank traces (words_of words.entry) }
+    ensures read { result ≡ read_blank traces (words_of words.entry) }
+    ensures other { IfErr result (λ fault. fault ≢ LineFault.OutOfMemory) }
 {
     let p = one(words).ok_or(LineFault::Words)?;
     let p = new_place(traces, p).ok_or(LineFault::Number)?;
@@ -45,7 +48,8 @@ pub(crate) fn blank(traces: u32, words: Words) -> Result<Command, LineFault>
 }
 
 pub(crate) fn copy(traces: u32, words: Words) -> Result<Command, LineFault>
-    ensures { result ≡ read_copy traces (words_of words.entry) }
+    ensures read { result ≡ read_copy traces (words_of words.entry) }
+    ensures other { IfErr result (λ fault. fault ≢ LineFault.OutOfMemory) }
 {
     let (q, p) = two(words).ok_or(LineFault::Words)?;
     let q = trace(traces, q).ok_or(LineFault::Number)?;
@@ -54,7 +58,8 @@ pub(crate) fn copy(traces: u32, words: Words) -> Result<Command, LineFault>
 }
 
 pub(crate) fn resize(traces: u32, words: Words) -> Result<Command, LineFault>
-    ensures { result ≡ read_resize traces (words_of words.entry) }
+    ensures read { result ≡ read_resize traces (words_of words.entry) }
+    ensures other { IfErr result (λ fault. fault ≢ LineFault.OutOfMemory) }
 {
     let (p, count) = two(words).ok_or(LineFault::Words)?;
     let p = trace(traces, p).ok_or(LineFault::Number)?;
@@ -89,17 +94,22 @@ fn fault_without_memory(floats: Option<FloatFormat>, rest: &str) -> LineFault
 
 // The numbers that the words of the text are. Takes memory. S03 where a word is no number, else
 // E11.
-fn numbers(alloc: Global, floats: Option<FloatFormat>, text: &str) -> Result<Items<i128>, LineFault>
-    ensures { IsListRead (numbers_of floats (words_of text.now)) result }
+fn numbers(
+    room: &mut Room,
+    floats: Option<FloatFormat>,
+    text: &str,
+) -> Result<Items<i128>, LineFault>
+    ensures read { IsListRead (numbers_of floats (words_of text.now)) result }
+    ensures memory { Rises (IsErrOf result LineFault.OutOfMemory) room.old room.new }
 {
-    let mut values = Vec::new(alloc);
+    let mut values = Vec::new(room.alloc());
     let mut words = Words::new(text);
     'words: while let Some(word) = words.next() {
         match sample(floats, word) {
             Some(value) => {
-                if values.push(value).is_err() {
+                let Ok(()) = room.told_back(values.push(value)) else {
                     return Err(fault_without_memory(floats, words.rest()));
-                }
+                };
             }
             None => return Err(LineFault::Number),
         }

@@ -1,28 +1,30 @@
 // The words of the floats that problems of traces tell.
-ghost use Rattle.std.specs.Prelude.{◌≡◌, IfOk};
+ghost use Rattle.std.specs.Prelude.{◌≡◌, IfOk, IsErr};
+ghost use Rattle.room.specs.Refusals.{Rises};
 ghost use Rattle.shown_floats.specs.Shows.{ShowsAny, ShowsProblems, rank_in, tells_sample as tells_sample_of};
 
 use crate::float_answer::ShownProblem;
 use crate::float_word::FloatWord;
 use bench_rules::{Items, ProblemLine};
 use float_codes::FloatFormat;
-use std::alloc::{AllocError, Global};
+use room::{OutOfMemory, Room};
 use trace_groups::TraceProblem;
 
 /// The lines, each with the word of its float where it tells of one. Takes memory.
 pub(crate) fn problems(
-    alloc: Global,
+    room: &mut Room,
     format: FloatFormat,
     lines: &[ProblemLine],
-) -> Result<Items<ShownProblem>, AllocError>
-    ensures { IfOk result (λ shown. ShowsProblems format lines.now shown) }
+) -> Result<Items<ShownProblem>, OutOfMemory>
+    ensures shown { IfOk result (λ shown. ShowsProblems format lines.now shown) }
+    ensures memory { Rises (IsErr result) room.old room.new }
 {
-    let mut shown = Vec::with_capacity(alloc, lines.len())?;
+    let mut shown = room.told(Vec::with_capacity(room.alloc(), lines.len()))?;
     for line in lines {
-        shown.push(ShownProblem {
+        room.told_back(shown.push(ShownProblem {
             line: *line,
             word: word(format, *line),
-        })?;
+        }))?;
     }
     Ok(Items::new(shown))
 }

@@ -1,6 +1,7 @@
 // The words that are printed for floats.
-ghost use Rattle.std.specs.Prelude.{◌≡◌, None, IfOk, IfErr, IfSome};
+ghost use Rattle.std.specs.Prelude.{◌≡◌, None, IfOk, IfErr, IfSome, IsErr};
 ghost use Rattle.std.specs.Ordering.{int_eq};
+ghost use Rattle.room.specs.Refusals.{Rises};
 ghost use Rattle.float_codes.specs.Ranks.{no_number};
 ghost use Rattle.shown_floats.specs.Shows.{Shows, ShowsEnds, ShowsEndsOf, ShowsNumbers, ShowsRows, ShowsStat, ShowsTotals, ShowsTraces, IsList, IsOther};
 
@@ -11,33 +12,34 @@ use crate::float_word::FloatWord;
 use crate::problems::problems;
 use bench_rules::{Answer, FloatStatistics, FloatTraceStatistics, Items, Row};
 use float_codes::{FloatFormat, NO_NUMBER};
-use std::alloc::{AllocError, Global};
+use room::{OutOfMemory, Room};
 use trace_record::Statistics;
 
 /// The answer with the words of its floats, where it is one about samples; `Ok(None)` of any other.
 /// Takes memory for the items of a list alone, and is refused where there was none.
 pub fn shown(
-    alloc: Global,
+    room: &mut Room,
     format: FloatFormat,
     answer: &Answer,
-) -> Result<Option<FloatAnswer>, AllocError>
+) -> Result<Option<FloatAnswer>, OutOfMemory>
     ensures shown { IfOk result (λ o. IfSome o (λ shown. Shows format answer.now shown)) }
     ensures other { IfOk result (λ o. o ≡ None → IsOther answer.now) }
     ensures list { IfErr result (λ _. IsList answer.now) }
+    ensures memory { Rises (IsErr result) room.old room.new }
 {
     match answer {
         Answer::Value(rank) => Ok(Some(FloatAnswer::Value(FloatWord::of(format, *rank)))),
         Answer::FloatStat(found) => Ok(Some(FloatAnswer::Stat(stat(format, *found)))),
         Answer::Totals(found) => Ok(Some(FloatAnswer::Totals(totals(format, *found)))),
         Answer::Slice(rows) => {
-            Ok(Some(FloatAnswer::Slice(slice(alloc, format, rows.as_slice())?)))
+            Ok(Some(FloatAnswer::Slice(slice(room, format, rows.as_slice())?)))
         }
         Answer::Problems(lines) => {
-            let shown = problems(alloc, format, lines.as_slice())?;
+            let shown = problems(room, format, lines.as_slice())?;
             Ok(Some(FloatAnswer::Problems(shown)))
         }
         Answer::FloatStats(traces) => {
-            Ok(Some(FloatAnswer::Stats(stats(alloc, format, traces.as_slice())?)))
+            Ok(Some(FloatAnswer::Stats(stats(room, format, traces.as_slice())?)))
         }
         _ => Ok(None),
     }
@@ -93,32 +95,34 @@ fn ends_of(format: FloatFormat, found: Statistics) -> Option<ShownEnds>
     Some(ends(format, found.least, found.greatest))
 }
 
-fn slice(alloc: Global, format: FloatFormat, rows: &[Row]) -> Result<Items<FloatRow>, AllocError>
-    ensures { IfOk result (λ shown. ShowsRows format rows.now shown) }
+fn slice(room: &mut Room, format: FloatFormat, rows: &[Row]) -> Result<Items<FloatRow>, OutOfMemory>
+    ensures shown { IfOk result (λ shown. ShowsRows format rows.now shown) }
+    ensures memory { Rises (IsErr result) room.old room.new }
 {
-    let mut shown = Vec::with_capacity(alloc, rows.len())?;
+    let mut shown = room.told(Vec::with_capacity(room.alloc(), rows.len()))?;
     for row in rows {
-        shown.push(FloatRow {
+        room.told_back(shown.push(FloatRow {
             row: *row,
             word: FloatWord::of(format, row.value),
-        })?;
+        }))?;
     }
     Ok(Items::new(shown))
 }
 
 fn stats(
-    alloc: Global,
+    room: &mut Room,
     format: FloatFormat,
     traces: &[FloatTraceStatistics],
-) -> Result<Items<ShownTrace>, AllocError>
-    ensures { IfOk result (λ shown. ShowsTraces format traces.now shown) }
+) -> Result<Items<ShownTrace>, OutOfMemory>
+    ensures shown { IfOk result (λ shown. ShowsTraces format traces.now shown) }
+    ensures memory { Rises (IsErr result) room.old room.new }
 {
-    let mut shown = Vec::with_capacity(alloc, traces.len())?;
+    let mut shown = room.told(Vec::with_capacity(room.alloc(), traces.len()))?;
     for trace in traces {
-        shown.push(ShownTrace {
+        room.told_back(shown.push(ShownTrace {
             trace: *trace,
             statistics: stat(format, trace.statistics),
-        })?;
+        }))?;
     }
     Ok(Items::new(shown))
 }

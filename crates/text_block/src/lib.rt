@@ -2,8 +2,9 @@
 //! the textual file header, the extended textual file headers and the data trailer records of SEG-Y
 //! revision 2.0.
 //!
-//! Lines and columns count from 1. `line` and `stanzas` take memory: `alloc` is their first
-//! argument, and their only error is `OutOfMemory`. The others take none.
+//! Lines and columns count from 1. `line` and `stanzas` take memory: `room` is their first
+//! argument, and their only error is `OutOfMemory`, only where a growth was refused in that call.
+//! The others take none.
 #![tactic(auto)]
 
 mod block;
@@ -12,7 +13,6 @@ mod code;
 mod laws;
 mod lines;
 mod names;
-mod out_of_memory;
 mod shown;
 mod text_fault;
 
@@ -21,5 +21,5 @@ pub use crate::code::Code;
 pub use crate::laws::shows_encoded;
 pub use crate::lines::{encode_line, line};
 pub use crate::names::stanzas;
-pub use crate::out_of_memory::OutOfMemory;
 pub use crate::text_fault::TextFault;
+pub use room::OutOfMemory;

@@ -1,26 +1,27 @@
 // The lines of a block, and a text as a line.
-ghost use Rattle.std.specs.Prelude.{◌≡◌, ◌≤◌, length, nat_lt, chars, OnOk, IfOk, IfErr, string_bytes};
+ghost use Rattle.std.specs.Prelude.{◌≡◌, ◌≤◌, length, nat_lt, chars, OnOk, IfOk, IfErr, IsErr, string_bytes};
+ghost use Rattle.room.specs.Refusals.{Rises};
 ghost use Rattle.text_block.specs.Characters.{blank as blank_of};
 ghost use Rattle.text_block.specs.Lines.{shown_line, text_fault, encoded_line, column_without_byte};
 
 use crate::block::{TEXT_BLOCK_BYTES, code_of};
 use crate::characters::byte_of;
 use crate::code::Code;
-use crate::out_of_memory::OutOfMemory;
 use crate::shown::shown;
 use crate::text_fault::TextFault;
-use std::alloc::Global;
+use room::{OutOfMemory, Room};
 
 /// Line `q` of the block, from 1 to 40, as it is shown: its 80 bytes as characters of the block's
 /// code. Any other byte, a carriage return, a line feed and an ASCII backslash are shown as a
 /// backslash and two hexadecimal digits. Takes memory.
-pub fn line(alloc: Global, block: &[u8; TEXT_BLOCK_BYTES], q: u32) -> Result<String, OutOfMemory>
+pub fn line(room: &mut Room, block: &[u8; TEXT_BLOCK_BYTES], q: u32) -> Result<String, OutOfMemory>
     requires first { 1 ≤ q }
     requires last { q ≤ 40 }
-    ensures { IfOk result (λ text. string_bytes text ≡ shown_line block.now q) }
+    ensures text { IfOk result (λ text. string_bytes text ≡ shown_line block.now q) }
+    ensures memory { Rises (IsErr result) room.old room.new }
 {
     let start = 80 * (q as usize - 1);
-    shown(alloc, code_of(block), &block[start..start + 80])
+    shown(room, code_of(block), &block[start..start + 80])
 }
 
 /// The text as the 80 bytes of a line, with blanks behind it. T01 comes first: more than 80

@@ -6,3 +6,4 @@ pub mod KeptLemmas
 pub mod FitLemmas
 pub mod TurnLemmas
 pub mod WalkLemmas
+pub mod MemoryLemmas

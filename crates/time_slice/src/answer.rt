@@ -1,5 +1,6 @@
 // The answer to a query for a slice.
-ghost use Rattle.std.specs.Prelude.{◌≡◌, IsTrue, map};
+ghost use Rattle.std.specs.Prelude.{◌≡◌, IsTrue, map, IsErrOf};
+ghost use Rattle.room.specs.Refusals.{Rises};
 ghost use Rattle.sample_codes.specs.Formats.{values};
 ghost use Rattle.frame_cut.specs.Traces.{count_of};
 ghost use Rattle.trace_record.specs.Packed.{record_in};
@@ -13,14 +14,14 @@ ghost use Rattle.bench_rules.specs.State.{State};
 use crate::rows;
 use bench_rules::{Answer, AskFault, Items, has_opaque_samples};
 use edit_overlay::Overlay;
-use std::alloc::Global;
+use room::Room;
 use trace_record::PackedRecord;
 
 /// Sample k, counted from 0, of each trace that has it. Looks at each trace once, and at none where
 /// samples have no values. Takes memory. Refused: E12, else E11 alone. On disk also where a trace
 /// could not be read (E14, E15).
 pub fn slice_answer(
-    alloc: Global,
+    room: &mut Room,
     overlay: &mut Overlay<PackedRecord>,
     k: u32,
 ) -> Result<Answer, AskFault>
@@ -30,10 +31,11 @@ pub fn slice_answer(
         IsReply s (queries.Slice k) result }
     ensures seen { IsSeen overlay.old overlay.new
         (value_looks (values overlay.old.volume.head.format) (count_of overlay.old.volume)) }
+    ensures memory { Rises (IsErrOf result AskFault.OutOfMemory) room.old room.new }
 {
     if has_opaque_samples(overlay) {
         return Err(AskFault::NoValues);
     }
-    let rows = rows(alloc, overlay, k)?;
+    let rows = rows(room, overlay, k)?;
     Ok(Answer::Slice(Items::new(rows)))
 }

@@ -1,19 +1,19 @@
 // What is kept of the rows of a slice.
-ghost use Rattle.std.specs.Prelude.{◌≡◌, ◌++◌, map, All, IfOk, OnOk, IsTrue};
+ghost use Rattle.std.specs.Prelude.{◌≡◌, ◌++◌, map, All, IfOk, OnOk, IsTrue, IsErr};
+ghost use Rattle.room.specs.Refusals.{Rises};
 ghost use Rattle.num_order.specs.Number.{IsBetween};
 ghost use Rattle.trace_record.specs.Facts.{facts_of};
 ghost use Rattle.bench_rules.specs.KeptSlices.{kept_of, row_again, rows_again};
 ghost use Rattle.time_slice.specs.Fitting.{has_signs, value_fits};
 ghost use Rattle.time_slice.specs.Shown.{pair_of};
 
-use crate::OutOfMemory;
 use crate::of_volume::push_row;
 use crate::record_walk::RecordWalk;
 use bench_rules::Row;
 use num_order::{Kind, Order};
 use record_table::Records;
+use room::{OutOfMemory, Room};
 use sample_codes::Format;
-use std::alloc::Global;
 use std::marker::Model;
 use std::mem::size_of;
 
@@ -73,26 +73,28 @@ impl Model for KeptRows {
 
 impl KeptRows {
     // What is kept of rows whose samples the format has.
-    pub(crate) fn of(alloc: Global, rows: &[Row], format: Format) -> Result<KeptRows, OutOfMemory>
+    pub(crate) fn of(room: &mut Room, rows: &[Row], format: Format) -> Result<KeptRows, OutOfMemory>
         requires { All (λ r. IsTrue (value_fits format r.value)) rows.now }
-        ensures { IfOk result (λ kept. kept ≡ kept_of rows.now) }
+        ensures kept { IfOk result (λ kept. kept ≡ kept_of rows.now) }
+        ensures memory { Rises (IsErr result) room.old room.new }
     {
         let signed = may_be_signed(format);
-        let mut kept = Vec::with_capacity(alloc, rows.len())?;
+        let mut kept = room.told(Vec::with_capacity(room.alloc(), rows.len()))?;
         for row in rows {
-            kept.push(KeptRow::of(*row, signed))?;
+            room.told_back(kept.push(KeptRow::of(*row, signed)))?;
         }
         Ok(KeptRows { signed, rows: kept })
     }
 
     // The rows of which this is kept.
-    pub(crate) fn rows(&self, alloc: Global, records: &Records) -> Result<Vec<Row>, OutOfMemory>
-        ensures { IfOk result (λ v. v.items ≡ rows_again (map facts_of records.now) self.now) }
+    pub(crate) fn rows(&self, room: &mut Room, records: &Records) -> Result<Vec<Row>, OutOfMemory>
+        ensures rows { IfOk result (λ v. v.items ≡ rows_again (map facts_of records.now) self.now) }
+        ensures memory { Rises (IsErr result) room.old room.new }
     {
-        let mut rows = Vec::with_capacity(alloc, self.rows.len())?;
+        let mut rows = room.told(Vec::with_capacity(room.alloc(), self.rows.len()))?;
         let mut walk = RecordWalk::new(records);
         for kept in &self.rows {
-            push_again(&mut rows, &mut walk, *kept, self.signed)?;
+            push_again(room, &mut rows, &mut walk, *kept, self.signed)?;
         }
         Ok(rows)
     }
@@ -110,6 +112,7 @@ fn may_be_signed(format: Format) -> bool
 
 // The row of which this is kept at the end of the rows.
 fn push_again(
+    room: &mut Room,
     rows: &mut Vec<Row>,
     records: &mut RecordWalk<'_>,
     kept: KeptRow,
@@ -118,10 +121,11 @@ fn push_again(
     ensures rows { OnOk result (rows.new.items ≡ rows.old.items ++
         row_again (map facts_of records.old) (pair_of signed kept)) }
     ensures records { records.new ≡ records.old }
+    ensures memory { Rises (IsErr result) room.old room.new }
 {
     let place = (kept.position as usize).saturating_sub(1);
     if let Some(record) = records.get(place) {
-        push_row(rows, &record, kept.position, Some(kept.value(signed)))?;
+        push_row(room, rows, &record, kept.position, Some(kept.value(signed)))?;
     }
     Ok(())
 }

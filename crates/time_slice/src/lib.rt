@@ -16,7 +16,6 @@ mod answer;
 mod kept_rows;
 mod laws;
 mod of_volume;
-mod out_of_memory;
 mod record_walk;
 mod records_ahead;
 mod slice_cache;
@@ -28,6 +27,6 @@ pub use crate::laws::{
     numbers_after_forgotten, right_of_records, rows_are_of_traces, rows_come_back, slice_is_slice,
 };
 pub use crate::of_volume::rows;
-pub use crate::out_of_memory::OutOfMemory;
 pub use crate::slice_cache::SliceCache;
 pub use crate::slice_fault::SliceFault;
+pub use room::OutOfMemory;

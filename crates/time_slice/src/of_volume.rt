@@ -1,4 +1,5 @@
-ghost use Rattle.std.specs.Prelude.{◌≡◌, ◌<◌, ◌++◌, length, map, All, IfOk, IfErr, IfSome, OnOk, IsTrue};
+ghost use Rattle.std.specs.Prelude.{◌≡◌, ◌<◌, ◌++◌, length, map, All, IfOk, IfErr, IfSome, OnOk, IsTrue, IsErr, IsErrOf};
+ghost use Rattle.room.specs.Refusals.{Rises};
 ghost use Rattle.frame_cut.specs.Traces.{count_of, is_trace, trace_at};
 ghost use Rattle.sample_codes.specs.Formats.{value_width, sample_value, sample_fits};
 ghost use Rattle.trace_view.specs.Shown.{head_of, bytes_of};
@@ -11,14 +12,14 @@ ghost use Rattle.time_slice.specs.Fitting.{value_fits};
 ghost use Rattle.bench_rules.specs.SlicesOfRecords.{with_sample_of};
 ghost use Rattle.bench_rules.specs.Slices.{row_of, rows_from, slice_rows};
 
-use crate::{OutOfMemory, SliceFault};
+use crate::SliceFault;
 use bench_rules::Row;
 use edit_overlay::{Overlay, ReadFault};
 use field_map::TRACE_HEADER_BYTES;
 use frame_cut::Head;
 use num_order::Order;
+use room::{OutOfMemory, Room};
 use sample_codes::ValueFormat;
-use std::alloc::Global;
 use trace_record::{PackedRecord, Record};
 use trace_view::TraceView;
 
@@ -29,7 +30,7 @@ use trace_view::TraceView;
 /// each trace; refused for want of it, or on disk where a trace could not be read. The volume stays
 /// as it is in any case.
 pub fn rows(
-    alloc: Global,
+    room: &mut Room,
     overlay: &mut Overlay<PackedRecord>,
     k: u32,
 ) -> Result<Vec<Row>, SliceFault>
@@ -41,15 +42,16 @@ pub fn rows(
     ensures seen { IsSeen overlay.old overlay.new (count_of overlay.old.volume) }
     ensures read { IfErr result (λ fault. IsOfRead fault → IsTrue overlay.old.loaded.on_disk
         × (0 < count_of overlay.old.volume)) }
+    ensures memory { Rises (IsErrOf result SliceFault.OutOfMemory) room.old room.new }
 {
-    let mut rows = rows_in_place(alloc, overlay, k)?;
+    let mut rows = rows_in_place(room, overlay, k)?;
     rows.sort_unstable();
     Ok(rows)
 }
 
 // A row for each trace that has sample k, in the order of the traces.
 fn rows_in_place(
-    alloc: Global,
+    room: &mut Room,
     overlay: &mut Overlay<PackedRecord>,
     k: u32,
 ) -> Result<Vec<Row>, SliceFault>
@@ -61,17 +63,18 @@ fn rows_in_place(
     ensures seen { IsSeen overlay.old overlay.new (count_of overlay.old.volume) }
     ensures read { IfErr result (λ fault. IsOfRead fault → IsTrue overlay.old.loaded.on_disk
         × (0 < count_of overlay.old.volume)) }
+    ensures memory { Rises (IsErrOf result SliceFault.OutOfMemory) room.old room.new }
 {
     // Room for all at once: a list that grows is copied again and again, each time to fresh memory.
     let count = overlay.count();
-    let mut rows = Vec::with_capacity(alloc, count as usize)?;
+    let mut rows = room.told(Vec::with_capacity(room.alloc(), count as usize))?;
     let near = usual_place(overlay.head(), k);
     for at in 0..count {
         let p = at + 1;
         overlay.read_ahead(p, near);
         let packed = overlay.payload(p);
         let sample = sample_in(overlay, p, k)?;
-        push_row(&mut rows, &packed.record(), p, sample)?;
+        push_row(room, &mut rows, &packed.record(), p, sample)?;
     }
     Ok(rows)
 }
@@ -103,21 +106,23 @@ fn usual_place(head: Head, k: u32) -> u64 {
 
 // The row of the trace at a position at the end of the rows, where it has the sample.
 pub(crate) fn push_row(
+    room: &mut Room,
     rows: &mut Vec<Row>,
     trace: &Record,
     position: u32,
     sample: Option<i128>,
 ) -> Result<(), OutOfMemory>
-    ensures { OnOk result (rows.new.items ≡ rows.old.items ++
+    ensures rows { OnOk result (rows.new.items ≡ rows.old.items ++
         row_of position (facts_of trace.now) sample) }
+    ensures memory { Rises (IsErr result) room.old room.new }
 {
     if let Some(value) = sample {
-        rows.push(Row {
+        room.told_back(rows.push(Row {
             inline: trace.inline,
             crossline: trace.crossline,
             position,
             value,
-        })?;
+        }))?;
     }
     Ok(())
 }

@@ -1,4 +1,5 @@
-ghost use Rattle.std.specs.Prelude.{◌≡◌, ◌<◌, ◌≤◌, ◌∷◌, [], ◌++◌, ℕ, ℤ, List, if◌then◌else◌, length, map, All, Some, IfOk, IfErr, OnOk, OnErr, IsTrue, IsFalse};
+ghost use Rattle.std.specs.Prelude.{◌≡◌, ◌<◌, ◌≤◌, ◌∷◌, [], ◌++◌, ℕ, ℤ, List, if◌then◌else◌, length, map, All, Some, IfOk, IfErr, OnOk, OnErr, IsTrue, IsFalse, IsErr, IsErrOf};
+ghost use Rattle.room.specs.Refusals.{Rises};
 ghost use Rattle.frame_cut.specs.Traces.{count_of};
 ghost use Rattle.trace_record.specs.Facts.{facts_of};
 ghost use Rattle.trace_record.specs.Packed.{record_in};
@@ -11,13 +12,13 @@ ghost use Rattle.bench_rules.specs.Slices.{slice_rows};
 ghost use Rattle.bench_rules.specs.KeptSlices.{Cache, AreRightOf, IsAsked, keeps, kept_of, kept_rows, rows_again, is_from, cache_after_change, none_kept, after_slice, after_change};
 
 use crate::kept_rows::KeptRows;
-use crate::{OutOfMemory, SliceFault, rows};
+use crate::{SliceFault, rows};
 use bench_rules::Row;
 use edit_overlay::Overlay;
 use lru::LruCache;
 use record_table::Records;
+use room::{OutOfMemory, Room};
 use sample_codes::Format;
-use std::alloc::Global;
 use std::marker::Model;
 use std::num::NonZeroUsize;
 use trace_record::PackedRecord;
@@ -43,14 +44,15 @@ impl Model for SliceCache {
 impl SliceCache {
     /// A cache that keeps none, with room for so many slices. Takes memory in step with their
     /// number; refused for want of it alone.
-    pub fn new(alloc: Global, capacity: usize) -> Result<SliceCache, OutOfMemory>
+    pub fn new(room: &mut Room, capacity: usize) -> Result<SliceCache, OutOfMemory>
         requires { 1 ≤ capacity }
-        ensures { IfOk result (λ cache. cache ≡ none_kept capacity) }
+        ensures none { IfOk result (λ cache. cache ≡ none_kept capacity) }
+        ensures memory { Rises (IsErr result) room.old room.new }
     {
         let Some(capacity) = NonZeroUsize::new(capacity) else {
             unreachable!()
         };
-        let cache = LruCache::new(alloc, capacity)?;
+        let cache = room.told(LruCache::new(room.alloc(), capacity))?;
         Ok(SliceCache { cache })
     }
 
@@ -69,7 +71,7 @@ impl SliceCache {
     /// it is in any case.
     pub fn slice(
         &mut self,
-        alloc: Global,
+        room: &mut Room,
         overlay: &mut Overlay<PackedRecord>,
         k: u32,
     ) -> Result<Vec<Row>, SliceFault>
@@ -86,13 +88,14 @@ impl SliceCache {
             (if keeps k self.old.entries then 0 else count_of overlay.old.volume) }
         ensures read { IfErr result (λ fault. IsOfRead fault → IsTrue overlay.old.loaded.on_disk
             × (0 < count_of overlay.old.volume) × IsFalse (keeps k self.old.entries)) }
+        ensures memory { Rises (IsErrOf result SliceFault.OutOfMemory) room.old room.new }
     {
         if self.cached(k) {
-            let kept = self.answer_kept(alloc, &Records::new(overlay.payloads()), k)?;
+            let kept = self.answer_kept(room, &Records::new(overlay.payloads()), k)?;
             return Ok(kept);
         }
-        let rows = rows(alloc, overlay, k)?;
-        self.keep(alloc, k, rows.as_slice(), overlay.head().format)?;
+        let rows = rows(room, overlay, k)?;
+        self.keep(room, k, rows.as_slice(), overlay.head().format)?;
         Ok(rows)
     }
 
@@ -114,7 +117,7 @@ impl SliceCache {
     // A kept slice from what is kept of it, which comes first then.
     fn answer_kept(
         &mut self,
-        alloc: Global,
+        room: &mut Room,
         records: &Records,
         k: u32,
     ) -> Result<Vec<Row>, OutOfMemory>
@@ -124,13 +127,14 @@ impl SliceCache {
         ensures ok { (rows : List Row) → kept_rows k self.old.entries ≡ Some (kept_of rows) →
             OnOk result (self.new ≡ after_slice self.old k rows) }
         ensures err { OnErr result (self.new ≡ self.old) }
+        ensures memory { Rises (IsErr result) room.old room.new }
     {
         // Read for the proof alone, which learns that no number is kept twice.
         let _count = self.cache.len();
         let Some(kept) = self.cache.peek(&k) else {
             unreachable!()
         };
-        let rows = kept.rows(alloc, records)?;
+        let rows = kept.rows(room, records)?;
         self.cache.promote(&k);
         Ok(rows)
     }
@@ -138,7 +142,7 @@ impl SliceCache {
     // Keeps a slice that is not kept, whose samples the format has.
     fn keep(
         &mut self,
-        alloc: Global,
+        room: &mut Room,
         k: u32,
         rows: &[Row],
         format: Format,
@@ -147,11 +151,12 @@ impl SliceCache {
         requires fits { All (λ r. IsTrue (value_fits format r.value)) rows.now }
         ensures ok { OnOk result (self.new ≡ after_slice self.old k rows.now) }
         ensures err { OnErr result (self.new ≡ self.old) }
+        ensures memory { Rises (IsErr result) room.old room.new }
     {
         // Read for the proof alone, which learns that there is room for one.
         let _count = self.cache.len();
-        let kept = KeptRows::of(alloc, rows, format)?;
-        self.cache.put(k, kept)?;
+        let kept = KeptRows::of(room, rows, format)?;
+        room.told_back(self.cache.put(k, kept))?;
         Ok(())
     }
 }

@@ -1,7 +1,6 @@
-use crate::OutOfMemory;
 use bench_rules::AskFault;
 use edit_overlay::ReadFault;
-use std::alloc::{AllocError, AllocFailed};
+use room::OutOfMemory;
 use thiserror::Error;
 
 /// Why no slice was given.
@@ -34,28 +33,6 @@ impl From<ReadFault> for SliceFault {
 
     fn from(read: ReadFault) -> SliceFault {
         SliceFault::Read(read)
-    }
-}
-
-impl From<AllocError> for SliceFault {
-    ghost use Rattle.std.specs.Prelude.{◌≡◌};
-    ghost use Rattle.time_slice.specs.declared.slice_fault.SliceFault.TheVariants.{OutOfMemory as no_memory};
-
-    ghost from_gives = { λ _ fault. fault ≡ no_memory };
-
-    fn from(_: AllocError) -> SliceFault {
-        SliceFault::OutOfMemory
-    }
-}
-
-impl<T: Drop> From<AllocFailed<T>> for SliceFault {
-    ghost use Rattle.std.specs.Prelude.{◌≡◌};
-    ghost use Rattle.time_slice.specs.declared.slice_fault.SliceFault.TheVariants.{OutOfMemory as no_memory};
-
-    ghost from_gives = { λ _ fault. fault ≡ no_memory };
-
-    fn from(_: AllocFailed<T>) -> SliceFault {
-        SliceFault::OutOfMemory
     }
 }
 

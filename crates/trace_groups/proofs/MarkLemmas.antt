@@ -5,9 +5,9 @@ use Rattle.std.proofs.lemmas.List.{append-nil, take_more, length-take-le}
 use Rattle.std.proofs.lemmas.Result.{IfOk-weaker}
 use Rattle.std.specs.Result.{IfOk}
 use Rattle.std.specs.declared.result.Result.{Result}
+use Rattle.room.specs.declared.out_of_memory.OutOfMemory.{OutOfMemory}
 use Rattle.trace_groups.specs.declared.group.TraceGroup.{TraceGroup}
 use Rattle.trace_groups.specs.declared.mark.Mark.{Mark}
-use Rattle.trace_groups.specs.declared.out_of_memory.OutOfMemory.{OutOfMemory}
 use Rattle.trace_groups.specs.declared.problem.TraceProblem.{TraceProblem}
 use Rattle.trace_groups.specs.declared.run_tally.RunTally.{RunTally}
 use Rattle.trace_groups.specs.OfTally.{IsTallyOf}

@@ -1,5 +1,6 @@
 // Loud traces.
-ghost use Rattle.std.specs.Prelude.{◌≡◌, ◌<◌, ◌^◌, IfOk, Some, max, unsigned_abs, length, map, filter_map, option_map};
+ghost use Rattle.std.specs.Prelude.{◌≡◌, ◌<◌, ◌^◌, IfOk, Some, max, unsigned_abs, length, map, filter_map, option_map, IsErr};
+ghost use Rattle.room.specs.Refusals.{Rises};
 ghost use Rattle.trace_record.specs.Facts.{facts_of};
 ghost use Rattle.trace_record.specs.Parts.{FitsSample};
 ghost use Rattle.trace_groups.specs.Groups.{group_of, group_in};
@@ -12,9 +13,9 @@ use crate::float_amounts::{exceeds_100_times, is_finite, pattern_of_amount};
 use crate::medians::lower_median;
 use crate::suspect_groups::group_by;
 use crate::suspects::Suspicion;
-use crate::{OutOfMemory, TraceGroup, TraceProblem};
+use crate::{TraceGroup, TraceProblem};
 use record_table::Records;
-use std::alloc::{AllocError, Global};
+use room::{OutOfMemory, Room};
 use trace_record::{Amplitudes, Record};
 
 // How many times the median a loud trace exceeds.
@@ -60,38 +61,42 @@ fn is_loud(floats: bool, median: u64, amount: u64) -> bool
 /// selection of the median. Takes 8 bytes a trace, and memory for the group; refused for want of it
 /// alone.
 pub fn loud_group(
-    alloc: Global,
+    room: &mut Room,
     records: &Records,
     floats: bool,
 ) -> Result<Option<TraceGroup>, OutOfMemory>
     requires { length records.now < 2 ^ 32 }
-    ensures { IfOk result (λ group. option_map group_in group ≡
+    ensures group { IfOk result (λ group. option_map group_in group ≡
         group_of loud (loud_marks floats (map facts_of records.now))) }
+    ensures memory { Rises (IsErr result) room.old room.new }
 {
-    match median_of(alloc, records, floats)? {
-        Some(median) => { group_by(alloc, TraceProblem::Loud, records, &Loud { floats, median }) }
+    match median_of(room, records, floats)? {
+        Some(median) => { group_by(room, TraceProblem::Loud, records, &Loud { floats, median }) }
         None => Ok(None),
     }
 }
 
 // The lower median of the traces' greatest amounts.
-fn median_of(alloc: Global, records: &Records, floats: bool) -> Result<Option<u64>, AllocError>
-    ensures { IfOk result (λ median. median ≡
+fn median_of(room: &mut Room, records: &Records, floats: bool) -> Result<Option<u64>, OutOfMemory>
+    ensures median { IfOk result (λ median. median ≡
         lower_median_in (filter_map (amount_in floats) (map facts_of records.now))) }
+    ensures memory { Rises (IsErr result) room.old room.new }
 {
-    let mut amounts = amounts_of(alloc, records, floats)?;
+    let mut amounts = amounts_of(room, records, floats)?;
     Ok(lower_median(amounts.as_mut_slice()))
 }
 
 // The greatest amounts of the traces that have one, in order.
-fn amounts_of(alloc: Global, records: &Records, floats: bool) -> Result<Vec<u64>, AllocError>
-    ensures { IfOk result (λ amounts. amounts.items ≡
+fn amounts_of(room: &mut Room, records: &Records, floats: bool) -> Result<Vec<u64>, OutOfMemory>
+    ensures amounts { IfOk result (λ amounts. amounts.items ≡
         filter_map (λ r. amount_in floats (facts_of r)) records.now) }
+    ensures memory { Rises (IsErr result) room.old room.new }
 {
-    records
+    let made = records
         .iter()
         .filter_map(|r| amount_of(floats, &r))
-        .collect(alloc)
+        .collect(room.alloc());
+    room.told(made)
 }
 
 // The greatest amount of the trace's samples, of floats its pattern; none without enough samples,

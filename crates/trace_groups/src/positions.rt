@@ -1,5 +1,6 @@
 // Traces without a position.
-ghost use Rattle.std.specs.Prelude.{◌≡◌, ℤ, ◌+◌, ◌<◌, ◌≤◌, ◌^◌, List, [], ◌∷◌, ◌++◌, IfOk, length, map, option_map};
+ghost use Rattle.std.specs.Prelude.{◌≡◌, ℤ, ◌+◌, ◌<◌, ◌≤◌, ◌^◌, List, [], ◌∷◌, ◌++◌, IfOk, length, map, option_map, IsErr};
+ghost use Rattle.room.specs.Refusals.{Rises};
 ghost use Rattle.trace_record.specs.Facts.{facts_of};
 ghost use Rattle.trace_groups.specs.Groups.{same_pair, group_of, group_in};
 ghost use Rattle.trace_groups.specs.Suspects.{origins, cell_of as cell_of_facts, lack_positions as positions_lack, origin_marks};
@@ -8,9 +9,9 @@ ghost use Rattle.trace_groups.specs.declared.problem.TraceProblem.TheVariants.{N
 
 use crate::suspect_groups::group_by;
 use crate::suspects::{AtOrigin, is_at_origin};
-use crate::{OutOfMemory, TraceGroup, TraceProblem};
+use crate::{TraceGroup, TraceProblem};
 use record_table::Records;
-use std::alloc::Global;
+use room::{OutOfMemory, Room};
 use trace_record::Record;
 
 /// S2: the traces whose x and y are both 0, where more than half of all traces stand elsewhere, and
@@ -18,18 +19,19 @@ use trace_record::Record;
 /// `no_survey` the cells do not count. Two passes at most. Takes memory for the group; refused for
 /// want of it alone.
 pub fn position_group(
-    alloc: Global,
+    room: &mut Room,
     records: &Records,
     no_survey: bool,
 ) -> Result<Option<TraceGroup>, OutOfMemory>
     requires { length records.now < 2 ^ 32 }
-    ensures { IfOk result (λ group. option_map group_in group ≡
+    ensures group { IfOk result (λ group. option_map group_in group ≡
         group_of no_position (origin_marks no_survey (map facts_of records.now))) }
+    ensures memory { Rises (IsErr result) room.old room.new }
 {
     if !lack_positions(records, no_survey) {
         return Ok(None);
     }
-    group_by(alloc, TraceProblem::NoPosition, records, &AtOrigin)
+    group_by(room, TraceProblem::NoPosition, records, &AtOrigin)
 }
 
 // Whether traces at 0 lack a position.

@@ -1,11 +1,13 @@
 // Runs of traces with one problem, counted trace by trace.
-ghost use Rattle.std.specs.Prelude.{◌≡◌, ℕ, ◌+◌, ◌<◌, ◌^◌, [], ◌∷◌, ◌++◌, List, OnOk, IfOk, length, option_map, option_to_list};
+ghost use Rattle.std.specs.Prelude.{◌≡◌, ℕ, ◌+◌, ◌<◌, ◌^◌, [], ◌∷◌, ◌++◌, List, OnOk, IfOk, length, option_map, option_to_list, IsErr};
+ghost use Rattle.room.specs.Refusals.{Rises};
 ghost use Rattle.trace_groups.specs.declared.mark.Mark.{Mark};
 ghost use Rattle.trace_groups.specs.Groups.{same_pair, group_of, group_in, marks_at};
 ghost use Rattle.trace_groups.specs.OfTally.{IsTallyOf, IsWithin, grown as run_with, kept, trails as trails_run};
 
 use crate::mark::Mark;
-use crate::{OutOfMemory, Run, TraceGroup, TraceProblem};
+use crate::{Run, TraceGroup, TraceProblem};
+use room::{OutOfMemory, Room};
 use std::alloc::Global;
 
 // How many runs a group shows.
@@ -35,17 +37,18 @@ impl RunTally {
     }
 
     // One mark more, behind the others. Takes memory where a run ends that a group shows.
-    pub(crate) fn push(&mut self, mark: Mark) -> Result<(), OutOfMemory>
+    pub(crate) fn push(&mut self, room: &mut Room, mark: Mark) -> Result<(), OutOfMemory>
         requires traces { self.old.traces + 1 < 2 ^ 64 }
         requires runs { self.old.closed + 1 < 2 ^ 64 }
         ensures tally { OnOk result ((marks : List Mark) →
             IsTallyOf marks self.old → IsTallyOf (marks ++ mark ∷ []) self.new) }
         ensures within { OnOk result ((n : ℕ) → IsWithin n self.old → IsWithin (n + 1) self.new) }
+        ensures memory { Rises (IsErr result) room.old room.new }
     {
         let run = match grown(self.current, mark) {
             Some(run) => run,
             None => {
-                self.close()?;
+                self.close(room)?;
                 Run {
                     first: mark.position,
                     last: mark.position,
@@ -61,6 +64,7 @@ impl RunTally {
     // The trace's mark, where there are facts of it.
     pub(crate) fn push_any(
         &mut self,
+        room: &mut Room,
         position: u32,
         facts: Option<(i128, i128)>,
     ) -> Result<(), OutOfMemory>
@@ -69,27 +73,29 @@ impl RunTally {
         ensures tally { OnOk result ((marks : List Mark) → IsTallyOf marks self.old →
             IsTallyOf (marks ++ marks_at position facts) self.new) }
         ensures within { OnOk result ((n : ℕ) → IsWithin n self.old → IsWithin (n + 1) self.new) }
+        ensures memory { Rises (IsErr result) room.old room.new }
     {
         match facts {
-            Some(facts) => self.push(Mark { position, facts }),
+            Some(facts) => self.push(room, Mark { position, facts }),
             None => Ok(()),
         }
     }
 
     // The run that may grow is closed.
-    fn close(&mut self) -> Result<(), OutOfMemory>
+    fn close(&mut self, room: &mut Room) -> Result<(), OutOfMemory>
         requires { self.old.closed + 1 < 2 ^ 64 }
         ensures traces { self.new.traces ≡ self.old.traces }
         ensures closed { OnOk result
             (self.new.closed ≡ self.old.closed + length (option_to_list self.old.current)) }
         ensures kept { OnOk result (self.new.first_closed.items ≡
             kept self.old.first_closed.items (option_to_list self.old.current)) }
+        ensures memory { Rises (IsErr result) room.old room.new }
     {
         let Some(run) = self.current else {
             return Ok(());
         };
         if self.first_closed.len() < SHOWN_RUNS {
-            self.first_closed.push(run)?;
+            room.told_back(self.first_closed.push(run))?;
         }
         self.closed += 1;
         Ok(())
@@ -97,15 +103,20 @@ impl RunTally {
 
     // The group of the problem, where the marks are of traces that have it; `None` without any.
     // Takes memory where the last run is one that a group shows.
-    pub(crate) fn finish(mut self, problem: TraceProblem) -> Result<Option<TraceGroup>, OutOfMemory>
+    pub(crate) fn finish(
+        mut self,
+        room: &mut Room,
+        problem: TraceProblem,
+    ) -> Result<Option<TraceGroup>, OutOfMemory>
         requires { self.closed + 1 < 2 ^ 64 }
-        ensures { IfOk result (λ group. (marks : List Mark) → IsTallyOf marks self →
+        ensures group { IfOk result (λ group. (marks : List Mark) → IsTallyOf marks self →
             option_map group_in group ≡ group_of problem marks) }
+        ensures memory { Rises (IsErr result) room.old room.new }
     {
         if self.traces == 0 {
             return Ok(None);
         }
-        self.close()?;
+        self.close(room)?;
         Ok(Some(TraceGroup {
             problem,
             traces: self.traces,

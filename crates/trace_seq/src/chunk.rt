@@ -2,7 +2,7 @@ ghost use Rattle.std.specs.Prelude.{◌≡◌, ◌+◌, ◌<◌, ◌≤◌, ◌+
 ghost use Rattle.std.specs.List.{insert, remove};
 ghost use Rattle.std.specs.Vec.{vec_capacity};
 
-use crate::room::insert_within;
+use crate::within::insert_within;
 
 /// How many ids a chunk has room for.
 pub const ROOM: usize = 512;

@@ -1,16 +1,16 @@
-ghost use Rattle.std.specs.Prelude.{◌≡◌, ◌+◌, ◌-◌, ◌<◌, ◌≤◌, ◌^◌, ◌++◌, ◌∷◌, [], length, take, min, ℕ, slice_index, slice_get, Some, MatchOption, IfSome, IfOk, IsOk, OnOk, OnErr};
+ghost use Rattle.std.specs.Prelude.{◌≡◌, ◌+◌, ◌-◌, ◌<◌, ◌≤◌, ◌^◌, ◌++◌, ◌∷◌, [], length, take, min, ℕ, slice_index, slice_get, Some, MatchOption, IfSome, IfOk, IsOk, OnOk, OnErr, IsErr};
 ghost use Rattle.std.specs.Bool.{OnTrue, OnFalse};
 ghost use Rattle.std.specs.List.{insert, remove};
 ghost use Rattle.std.specs.Vec.{vec_capacity};
+ghost use Rattle.room.specs.Refusals.{Rises};
 ghost use Rattle.trace_seq.specs.Chunks.{ids_of, size_at, place_at, chunk_count, IsEmpty, IsWhole};
 ghost use Rattle.trace_seq.specs.Fronts.{AreKept, AreRaised};
 ghost use Rattle.trace_seq.specs.Without.{without_each, AreRising};
 
 use crate::chunk::{Chunk, ROOM, Spot};
-use crate::out_of_memory::OutOfMemory;
-use crate::room::{insert_within, push_within};
 use crate::thinning::{pour, settle_all, thin_all};
-use std::alloc::Global;
+use crate::within::{insert_within, push_within};
+use room::{OutOfMemory, Room};
 
 /// How full a chunk is where ids are put behind all others.
 pub const FILL: usize = 384;
@@ -304,7 +304,7 @@ impl ChunkList {
     }
 
     /// Makes room for one chunk more, among those in use and the spare ones.
-    pub fn reserve_chunk(&mut self) -> Result<(), OutOfMemory>
+    pub fn reserve_chunk(&mut self, room: &mut Room) -> Result<(), OutOfMemory>
         requires whole { IsWhole self.old }
         ensures whole { IsWhole self.new }
         ensures chunks { self.new.chunks.items ≡ self.old.chunks.items }
@@ -315,16 +315,17 @@ impl ChunkList {
         ensures spare_room { OnOk result
             (length self.old.chunks.items + length self.old.spares.items < vec_capacity
             self.new.spares) }
+        ensures memory { Rises (IsErr result) room.old room.new }
     {
         let spares = self.spares.len();
         let chunks = self.chunks.len();
-        self.chunks.reserve(spares + 1)?;
-        self.spares.reserve(chunks + 1)?;
+        room.told(self.chunks.reserve(spares + 1))?;
+        room.told(self.spares.reserve(chunks + 1))?;
         Ok(())
     }
 
     /// Makes room for one chunk more where none is spare.
-    pub fn reserve(&mut self, alloc: Global) -> Result<(), OutOfMemory>
+    pub fn reserve(&mut self, room: &mut Room) -> Result<(), OutOfMemory>
         requires whole { IsWhole self.old }
         ensures whole { IsWhole self.new }
         ensures chunks { self.new.chunks.items ≡ self.old.chunks.items }
@@ -336,24 +337,25 @@ impl ChunkList {
         ensures succeeds { 0 < length self.old.spares.items → IsOk result }
         ensures same_spares { OnErr result
             (length self.new.spares.items ≡ length self.old.spares.items) }
+        ensures memory { Rises (IsErr result) room.old room.new }
     {
         if !self.spares.is_empty() {
             return Ok(());
         }
-        let fresh = make_chunk(alloc)?;
-        self.reserve_chunk()?;
+        let fresh = make_chunk(room)?;
+        self.reserve_chunk(room)?;
         push_within(&mut self.spares, fresh);
         Ok(())
     }
 }
 
 /// An empty chunk.
-fn make_chunk(alloc: Global) -> Result<Chunk, OutOfMemory>
-    ensures { IfOk result IsEmpty }
+fn make_chunk(room: &mut Room) -> Result<Chunk, OutOfMemory>
+    ensures empty { IfOk result IsEmpty }
+    ensures memory { Rises (IsErr result) room.old room.new }
 {
-    Ok(Chunk {
-        ids: Vec::with_capacity(alloc, ROOM)?,
-    })
+    let ids = room.told(Vec::with_capacity(room.alloc(), ROOM))?;
+    Ok(Chunk { ids })
 }
 
 /// The last of the spare chunks.

@@ -1,11 +1,12 @@
-ghost use Rattle.std.specs.Prelude.{◌≡◌, ◌+◌, ◌/◌, ◌<◌, ◌≤◌, ◌^◌, ◌-◌, [], length, IsOk, OnOk, OnErr};
+ghost use Rattle.std.specs.Prelude.{◌≡◌, ◌+◌, ◌/◌, ◌<◌, ◌≤◌, ◌^◌, ◌-◌, [], length, IsOk, OnOk, OnErr, IsErr};
+ghost use Rattle.room.specs.Refusals.{Rises};
 ghost use Rattle.trace_seq.specs.Order.{id_at, with_id, without_id, with_id_moved};
 ghost use Rattle.trace_seq.specs.Without.{without_each, AreRising};
 
 use crate::chunk_list::ChunkList;
 use crate::counted_chunks::CountedChunks;
 use crate::ids::Ids;
-use crate::out_of_memory::OutOfMemory;
+use room::{OutOfMemory, Room};
 use std::alloc::Global;
 use std::marker::Model;
 
@@ -91,14 +92,15 @@ impl ChunkSeq {
 
     /// Makes room for one insert or move. Where that is refused nothing changes; where it is there
     /// already it takes no memory.
-    pub fn reserve_one(&mut self, alloc: Global) -> Result<(), OutOfMemory>
+    pub fn reserve_one(&mut self, room: &mut Room) -> Result<(), OutOfMemory>
         ensures ids { self.new.ids ≡ self.old.ids }
         ensures spare { OnOk result (1 ≤ self.new.spare) }
         ensures spare_stays { self.old.spare ≤ self.new.spare }
         ensures succeeds { 1 ≤ self.old.spare → IsOk result }
         ensures same_spare { OnErr result (self.new.spare ≡ self.old.spare) }
+        ensures memory { Rises (IsErr result) room.old room.new }
     {
-        self.chunks.reserve(alloc)
+        self.chunks.reserve(room)
     }
 
     /// Puts an id at position p, from 1 to `len() + 1`. Takes no memory.

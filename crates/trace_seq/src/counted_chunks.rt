@@ -1,6 +1,7 @@
-ghost use Rattle.std.specs.Prelude.{◌≡◌, ◌+◌, ◌-◌, ◌<◌, ◌≤◌, ◌^◌, length, slice_get, slice_index, Some, IsOk, OnOk, OnErr};
+ghost use Rattle.std.specs.Prelude.{◌≡◌, ◌+◌, ◌-◌, ◌<◌, ◌≤◌, ◌^◌, length, slice_get, slice_index, Some, IsOk, OnOk, OnErr, IsErr};
 ghost use Rattle.std.specs.List.{insert, remove};
 ghost use Rattle.std.specs.Vec.{vec_capacity};
+ghost use Rattle.room.specs.Refusals.{Rises};
 ghost use Rattle.trace_seq.specs.Chunks.{ids_of, place_at, size_at, chunk_count, IsWhole};
 ghost use Rattle.trace_seq.specs.Fronts.{IsCounted};
 ghost use Rattle.trace_seq.specs.Without.{without_each, AreRising};
@@ -8,9 +9,8 @@ ghost use Rattle.trace_seq.specs.Without.{without_each, AreRising};
 use crate::chunk::{ROOM, Spot};
 use crate::chunk_list::ChunkList;
 use crate::fronts::{GROUP, count, find_group, locate, lower, raise};
-use crate::out_of_memory::OutOfMemory;
-use crate::room::push_within;
-use std::alloc::Global;
+use crate::within::push_within;
+use room::{OutOfMemory, Room};
 
 /// Chunks in order, and for each 16th of them how many ids stand in front of it.
 #[derive(Drop)]
@@ -210,7 +210,7 @@ impl CountedChunks {
     }
 
     /// Makes room for one chunk more where none is spare.
-    pub fn reserve(&mut self, alloc: Global) -> Result<(), OutOfMemory>
+    pub fn reserve(&mut self, room: &mut Room) -> Result<(), OutOfMemory>
         requires counted { IsCounted self.old }
         ensures counted { IsCounted self.new }
         ensures chunks { self.new.list.chunks.items ≡ self.old.list.chunks.items }
@@ -219,11 +219,12 @@ impl CountedChunks {
         ensures succeeds { 0 < length self.old.list.spares.items → IsOk result }
         ensures same_spares { OnErr result
             (length self.new.list.spares.items ≡ length self.old.list.spares.items) }
+        ensures memory { Rises (IsErr result) room.old room.new }
     {
         if self.list.spares.is_empty() {
             let chunks = self.list.chunks.len();
-            self.fronts.reserve(chunks + 1)?;
+            room.told(self.fronts.reserve(chunks + 1))?;
         }
-        self.list.reserve(alloc)
+        self.list.reserve(room)
     }
 }

@@ -9,7 +9,7 @@ ghost use Rattle.trace_seq.specs.Without.{without_each, without_from, AreRising}
 
 use crate::chunk::{Chunk, ROOM};
 use crate::chunk_list::take_spare;
-use crate::room::push_within;
+use crate::within::push_within;
 
 /// Takes the items at these positions out of a list whose first stands at `first`, and tells how
 /// many. Does not go over the list where none of them is there. Takes no memory.

@@ -1,5 +1,6 @@
 // The bytes of one trace, held in little: what lies under its runs, and the runs.
-ghost use Rattle.std.specs.Prelude.{◌≡◌, ◌+◌, ◌<◌, ◌≤◌, [], ◌∷◌, length, IfOk, IfSome, OnOk};
+ghost use Rattle.std.specs.Prelude.{◌≡◌, ◌+◌, ◌<◌, ◌≤◌, [], ◌∷◌, length, IfOk, IfSome, IsErr, OnOk};
+ghost use Rattle.room.specs.Refusals.{Rises};
 ghost use Rattle.base_file.specs.HeldBytes.{IsStill, IsSure};
 ghost use Rattle.trace_view.specs.Runs.{Fit};
 ghost use Rattle.trace_view.specs.Puts.{contents, ShowPut};
@@ -9,12 +10,11 @@ ghost use Rattle.trace_store.specs.Layers.{added_of, base_of_kind, base_of_under
 ghost use Rattle.trace_store.specs.declared.base.Base.TheVariants.{Added, Loaded};
 
 use crate::base::Base;
-use crate::out_of_memory::OutOfMemory;
 use crate::whole::is_whole;
 use base_file::{Held, ReadFault};
 use frame_cut::{Extent, Head};
+use room::{OutOfMemory, Room};
 use smallvec::SmallVec;
-use std::alloc::Global;
 use std::boxed::Box;
 use std::marker::Model;
 use std::mem;
@@ -91,17 +91,18 @@ impl Model for NewRuns {
 
 impl Layers {
     // A base without runs. An extent of less than 2^32 bytes takes no memory.
-    pub(crate) fn over(alloc: Global, base: Base) -> Result<Layers, OutOfMemory>
-        ensures { IfOk result (λ l. l ≡ record { base = base; runs = [] }) }
+    pub(crate) fn over(room: &mut Room, base: Base) -> Result<Layers, OutOfMemory>
+        ensures base { IfOk result (λ l. l ≡ record { base = base; runs = [] }) }
+        ensures memory { Rises (IsErr result) room.old room.new }
     {
         let kind = match base {
-            Base::Added(bytes) => Kind::Added(Box::new(alloc, bytes)?),
+            Base::Added(bytes) => Kind::Added(room.told_back(Box::new(room.alloc(), bytes))?),
             Base::Loaded(extent) => match u32::try_from(extent.length) {
                 Ok(length) => Kind::Short {
                     length,
                     start: extent.start,
                 },
-                Err(_) => Kind::Long(Box::new(alloc, extent)?),
+                Err(_) => Kind::Long(room.told_back(Box::new(room.alloc(), extent))?),
             },
         };
         Ok(Layers { kind })
@@ -234,7 +235,7 @@ impl Layers {
     // memory for the new runs. One run needs no list.
     pub(crate) fn runs_with(
         &self,
-        alloc: Global,
+        room: &mut Room,
         at: u64,
         bytes: &[u8],
     ) -> Result<NewRuns, OutOfMemory>
@@ -244,12 +245,13 @@ impl Layers {
         ensures fit { IfOk result (λ list. Fit list (size_of self.now.base)) }
         ensures bytes { IfOk result
             (λ list. ShowPut (size_of self.now.base) self.now.runs at bytes.now list) }
+        ensures memory { Rises (IsErr result) room.old room.new }
     {
         if self.runs().is_empty() {
-            return NewRuns::one(alloc, at, bytes);
+            return NewRuns::one(room, at, bytes);
         }
-        let runs = put_run(alloc, self.size(), self.runs(), at, bytes)?;
-        NewRuns::of(alloc, runs)
+        let runs = put_run(room, self.size(), self.runs(), at, bytes)?;
+        NewRuns::of(room, runs)
     }
 
     // Lays the runs in place of those that the trace has. Takes no memory.
@@ -269,16 +271,18 @@ impl Layers {
 
 impl NewRuns {
     // One run of these bytes from place `at` on, counted from 0. Takes memory.
-    fn one(alloc: Global, at: u64, bytes: &[u8]) -> Result<NewRuns, OutOfMemory>
-        ensures { IfOk result (λ new. contents new ≡ (at, bytes.now) ∷ []) }
+    fn one(room: &mut Room, at: u64, bytes: &[u8]) -> Result<NewRuns, OutOfMemory>
+        ensures contents { IfOk result (λ new. contents new ≡ (at, bytes.now) ∷ []) }
+        ensures memory { Rises (IsErr result) room.old room.new }
     {
-        let own = SmallVec::from_slice(alloc, bytes)?;
-        NewRuns::of_run(alloc, Run { at, bytes: own })
+        let own = room.told(SmallVec::from_slice(room.alloc(), bytes))?;
+        NewRuns::of_run(room, Run { at, bytes: own })
     }
 
     // The run alone. Takes memory.
-    fn of_run(alloc: Global, run: Run) -> Result<NewRuns, OutOfMemory>
-        ensures { IfOk result (λ new. new ≡ run ∷ []) }
+    fn of_run(room: &mut Room, run: Run) -> Result<NewRuns, OutOfMemory>
+        ensures runs { IfOk result (λ new. new ≡ run ∷ []) }
+        ensures memory { Rises (IsErr result) room.old room.new }
     {
         let one = OneRun {
             under: Under::Short {
@@ -287,19 +291,21 @@ impl NewRuns {
             },
             run: [run],
         };
+        let one = room.told_back(Box::new(room.alloc(), one))?;
         Ok(NewRuns {
-            kind: Kind::One(Box::new(alloc, one)?),
+            kind: Kind::One(one),
         })
     }
 
     // Runs that were made. Takes memory.
-    fn of(alloc: Global, mut runs: Vec<Run>) -> Result<NewRuns, OutOfMemory>
-        ensures { IfOk result (λ new. new ≡ runs.items) }
+    fn of(room: &mut Room, mut runs: Vec<Run>) -> Result<NewRuns, OutOfMemory>
+        ensures runs { IfOk result (λ new. new ≡ runs.items) }
+        ensures memory { Rises (IsErr result) room.old room.new }
     {
         if runs.len() == 1
             && let Some(run) = runs.pop()
         {
-            return NewRuns::of_run(alloc, run);
+            return NewRuns::of_run(room, run);
         }
         let many = ManyRuns {
             under: Under::Short {
@@ -308,8 +314,9 @@ impl NewRuns {
             },
             runs,
         };
+        let many = room.told_back(Box::new(room.alloc(), many))?;
         Ok(NewRuns {
-            kind: Kind::Many(Box::new(alloc, many)?),
+            kind: Kind::Many(many),
         })
     }
 

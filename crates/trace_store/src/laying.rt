@@ -1,15 +1,15 @@
 // The same bytes laid over many traces, over each at a place of its own.
-ghost use Rattle.std.specs.Prelude.{◌≡◌, ℕ, ◌+◌, ◌-◌, ◌<◌, ◌≤◌, [], length, get_or, slice_index_or, IfOk};
+ghost use Rattle.std.specs.Prelude.{◌≡◌, ℕ, ◌+◌, ◌-◌, ◌<◌, ◌≤◌, [], length, get_or, slice_index_or, IfOk, IsErr};
+ghost use Rattle.room.specs.Refusals.{Rises};
 ghost use Rattle.base_file.specs.HeldBytes.{IsSure};
 ghost use Rattle.frame_cut.specs.Cuts.{IsTrace};
 ghost use Rattle.frame_cut.specs.Splice.{splice};
 ghost use Rattle.trace_store.specs.Each.{put_over, ArePutOver};
 
 use crate::layers::NewRuns;
-use crate::out_of_memory::OutOfMemory;
 use crate::prepared::{Prepared, TraceRuns};
 use crate::store::TraceStore;
-use std::alloc::Global;
+use room::{OutOfMemory, Room};
 
 impl<T: Copy> TraceStore<T> {
     ghost use Rattle.trace_store.specs.Ahead.{traces_then, IsReady};
@@ -19,7 +19,7 @@ impl<T: Copy> TraceStore<T> {
     /// over each from its place on, counted from 0.
     pub fn prepare_put_over(
         &self,
-        alloc: Global,
+        room: &mut Room,
         a: u32,
         places: &[u64],
         bytes: &[u8],
@@ -37,8 +37,9 @@ impl<T: Copy> TraceStore<T> {
             ≡ payloads_of self.now) }
         ensures traces { IfOk result (λ prepared. traces_then self.now prepared
             ≡ put_over (traces_of self.now) (a - 1) places.now bytes.now) }
+        ensures memory { Rises (IsErr result) room.old room.new }
     {
-        let lists = self.runs_over_each(alloc, a, places, bytes)?;
+        let lists = self.runs_over_each(room, a, places, bytes)?;
         Ok(Prepared::Runs(TraceRuns {
             place: a - 1,
             lists,
@@ -48,7 +49,7 @@ impl<T: Copy> TraceStore<T> {
     // For each of these traces, the runs with the bytes laid over it from its place on.
     fn runs_over_each(
         &self,
-        alloc: Global,
+        room: &mut Room,
         a: u32,
         places: &[u64],
         bytes: &[u8],
@@ -58,13 +59,15 @@ impl<T: Copy> TraceStore<T> {
         requires last { a - 1 + length places.now ≤ length (traces_of self.now) }
         requires inside { (k : ℕ) → k < length places.now → get_or places.now k 0 +
             length bytes.now ≤ length (slice_index_or (traces_of self.now) (a - 1 + k) []) }
-        ensures { IfOk result (λ lists. ArePutOver (bases_of self.now) (traces_of self.now) (a - 1)
-            places.now bytes.now lists.items) }
+        ensures runs { IfOk result (λ lists.
+            ArePutOver (bases_of self.now) (traces_of self.now) (a - 1) places.now bytes.now
+            lists.items) }
+        ensures memory { Rises (IsErr result) room.old room.new }
     {
-        let mut lists = Vec::with_capacity(alloc, places.len())?;
+        let mut lists = room.told(Vec::with_capacity(room.alloc(), places.len()))?;
         for k in 0..places.len() {
-            let runs = self.runs_with(alloc, a + k as u32, places[k], bytes)?;
-            lists.push(runs)?;
+            let runs = self.runs_with(room, a + k as u32, places[k], bytes)?;
+            room.told_back(lists.push(runs))?;
         }
         Ok(lists)
     }

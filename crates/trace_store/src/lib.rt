@@ -16,8 +16,8 @@
 //!
 //! An edit has two parts: what is [`Prepared`] takes all the memory and changes nothing, and
 //! `commit`, which takes none and cannot fail, makes the edit. A [`Column`] lends the payloads
-//! alone. A look at a trace is refused with a `ReadFault`, an edit with `OutOfMemory`; then nothing
-//! is changed.
+//! alone. A look at a trace is refused with a `ReadFault`, an edit with `OutOfMemory`, only where a
+//! growth was refused in that call; then nothing is changed.
 #![tactic(auto)]
 
 mod base;
@@ -25,7 +25,6 @@ mod column;
 mod deleting;
 mod layers;
 mod laying;
-mod out_of_memory;
 mod parts;
 mod payloads;
 mod prepared;
@@ -38,10 +37,10 @@ mod window;
 pub use crate::base::Base;
 pub use crate::column::Column;
 pub use crate::layers::{Layers, NewRuns};
-pub use crate::out_of_memory::OutOfMemory;
 pub use crate::parts::part;
 pub use crate::payloads::Payloads;
 pub use crate::prepared::{Prepared, TraceMove, TracePut, TraceRuns};
 pub use crate::slot::Slot;
 pub use crate::store::TraceStore;
 pub use crate::window::Window;
+pub use room::OutOfMemory;

@@ -1,6 +1,7 @@
 // The traces of a volume: an order of ids, and a slot under each.
-ghost use Rattle.std.specs.Prelude.{◌≡◌, ℕ, ◌+◌, ◌-◌, ◌/◌, ◌%◌, ◌^◌, ◌<◌, ◌≤◌, [], ◌∷◌, length, take, drop, Some, None, option_copied, slice_index_or, slice_set, IfErr, IfOk, IfSome, IsOk, IsTrue, OnOk, OnErr, slice_get};
+ghost use Rattle.std.specs.Prelude.{◌≡◌, ℕ, ◌+◌, ◌-◌, ◌/◌, ◌%◌, ◌^◌, ◌<◌, ◌≤◌, [], ◌∷◌, length, take, drop, Some, None, option_copied, slice_index_or, slice_set, IfErr, IfOk, IfSome, IsErr, IsErrOf, IsOk, IsTrue, OnOk, OnErr, slice_get};
 ghost use Rattle.std.specs.List.{insert, remove, swap};
+ghost use Rattle.room.specs.Refusals.{Rises};
 ghost use Rattle.base_file.specs.HeldBytes.{InMemory, AreThere, IsInMemory, IsStill, IsSure, lent_of};
 ghost use Rattle.frame_cut.specs.Cuts.{IsTrace};
 ghost use Rattle.frame_cut.specs.Layout.{bytes_at};
@@ -15,13 +16,13 @@ ghost use Rattle.trace_store.specs.OneProof.{IsStore-prop};
 
 use crate::base::Base;
 use crate::layers::{Layers, NewRuns};
-use crate::out_of_memory::OutOfMemory;
 use crate::parts::part;
 use crate::prepared::{Prepared, TraceMove, TracePut, TraceRuns};
 use crate::slot::{Slot, piece};
 use crate::window::Window;
 use base_file::{Held, ReadFault};
 use frame_cut::{Extent, Head, LoadFault};
+use room::{OutOfMemory, Room};
 use slab::Slab;
 use std::alloc::Global;
 use std::mem;
@@ -47,13 +48,13 @@ impl<T: Copy> TraceStore<T> {
     ghost use Rattle.trace_store.specs.Windows.{IsFaultOfPass, IsNextOf};
     ghost use Rattle.trace_store.specs.Swapped.{with_swapped, ArePlaces};
 
-    /// No traces yet over a file that was loaded into memory, with room for so many slots. Refused
-    /// for want of memory alone.
+    /// No traces yet over a file that was loaded into memory, with memory for so many slots.
+    /// Refused for want of memory alone.
     pub fn new(
-        alloc: Global,
+        room: &mut Room,
         loaded: Vec<u8>,
         head: Head,
-        room: usize,
+        count: usize,
     ) -> Result<TraceStore<T>, OutOfMemory>
         ensures head { IfOk result (λ s. s.head ≡ head) }
         ensures loaded { IfOk result (λ s. s.loaded.bytes ≡ loaded.items) }
@@ -62,12 +63,14 @@ impl<T: Copy> TraceStore<T> {
         ensures back { IfOk result (λ s. s.loaded.back ≡ length loaded.items) }
         ensures traces { IfOk result (λ s. traces_of s ≡ []) }
         ensures payloads { IfOk result (λ s. payloads_of s ≡ []) }
+        ensures memory { Rises (IsErr result) room.old room.new }
     {
+        let slots = room.told(Slab::with_capacity(room.alloc(), count))?;
         Ok(TraceStore {
-            loaded: Held::in_memory(alloc, loaded),
+            loaded: Held::in_memory(room.alloc(), loaded),
             head,
-            order: ChunkSeq::new(alloc),
-            slots: Slab::with_capacity(alloc, room)?,
+            order: ChunkSeq::new(room.alloc()),
+            slots,
         })
     }
 
@@ -88,7 +91,13 @@ impl<T: Copy> TraceStore<T> {
 
     /// Reads a file that is being passed on, until the window has n bytes. Refused as
     /// `Window::hold`.
-    pub fn hold(&mut self, window: &mut Window, n: usize, size: u64) -> Result<(), LoadFault>
+    pub fn hold(
+        &mut self,
+        room: &mut Room,
+        window: &mut Window,
+        n: usize,
+        size: u64,
+    ) -> Result<(), LoadFault>
         requires { length self.old.loaded.bytes ≤ size }
         ensures grown { HasMore self.old self.new }
         ensures next { (at : ℕ) → IsNextOf self.old.loaded.bytes at window.old.bytes →
@@ -96,8 +105,9 @@ impl<T: Copy> TraceStore<T> {
         ensures within { length self.new.loaded.bytes ≤ size }
         ensures there { OnOk result (n ≤ length window.new.bytes) }
         ensures fault { IfErr result IsFaultOfPass }
+        ensures memory { Rises (IsErrOf result LoadFault.OutOfMemory) room.old room.new }
     {
-        window.hold(&mut self.loaded, n, size)
+        window.hold(room, &mut self.loaded, n, size)
     }
 
     /// Whether the file that is being passed has no more bytes. Refused as `Held::is_at_end`. Takes
@@ -389,7 +399,7 @@ impl<T: Copy> TraceStore<T> {
     /// trace.
     pub fn prepare_put(
         &self,
-        alloc: Global,
+        room: &mut Room,
         p: u32,
         at: u64,
         bytes: &[u8],
@@ -408,15 +418,16 @@ impl<T: Copy> TraceStore<T> {
             ≡ slice_set (traces_of self.now) (p - 1)
             (splice (slice_index_or (traces_of self.now) (p - 1) []) at (length bytes.now)
             bytes.now)) }
+        ensures memory { Rises (IsErr result) room.old room.new }
     {
         let place = p - 1;
         if bytes.is_empty() {
             return Ok(Prepared::Runs(TraceRuns {
                 place,
-                lists: Vec::new(alloc),
+                lists: Vec::new(room.alloc()),
             }));
         }
-        let runs = self.runs_with(alloc, p, at, bytes)?;
+        let runs = self.runs_with(room, p, at, bytes)?;
         Ok(Prepared::Put(TracePut { place, runs }))
     }
 
@@ -424,7 +435,7 @@ impl<T: Copy> TraceStore<T> {
     /// each from place `at` on, counted from 0.
     pub fn prepare_put_each(
         &self,
-        alloc: Global,
+        room: &mut Room,
         a: u32,
         at: u64,
         size: u32,
@@ -444,8 +455,9 @@ impl<T: Copy> TraceStore<T> {
             ≡ payloads_of self.now) }
         ensures traces { IfOk result (λ prepared. traces_then self.now prepared
             ≡ put_each_at (traces_of self.now) (a - 1) at size bytes.now) }
+        ensures memory { Rises (IsErr result) room.old room.new }
     {
-        let lists = self.runs_for_each(alloc, a, at, size, bytes)?;
+        let lists = self.runs_for_each(room, a, at, size, bytes)?;
         Ok(Prepared::Runs(TraceRuns {
             place: a - 1,
             lists,
@@ -454,7 +466,7 @@ impl<T: Copy> TraceStore<T> {
 
     /// The move of trace a to where it is trace b, and room for it in the order. Where memory is
     /// refused, nothing is changed.
-    pub fn prepare_move(&mut self, alloc: Global, a: u32, b: u32) -> Result<Prepared, OutOfMemory>
+    pub fn prepare_move(&mut self, room: &mut Room, a: u32, b: u32) -> Result<Prepared, OutOfMemory>
         requires from_first { 1 ≤ a }
         requires from_last { a ≤ length (traces_of self.old) }
         requires to_first { 1 ≤ b }
@@ -470,8 +482,9 @@ impl<T: Copy> TraceStore<T> {
             ≡ traces_moved (traces_of self.old) a b) }
         ensures carried { IfOk result (λ prepared. payloads_then (payloads_of self.new) prepared
             ≡ payloads_moved (payloads_of self.old) a b) }
+        ensures memory { Rises (IsErr result) room.old room.new }
     {
-        self.order.reserve_one(alloc)?;
+        self.order.reserve_one(room)?;
         Ok(Prepared::Move(TraceMove { from: a, to: b }))
     }
 
@@ -554,7 +567,7 @@ impl<T: Copy> TraceStore<T> {
     // For each of these traces, the runs with its bytes laid over it.
     fn runs_for_each(
         &self,
-        alloc: Global,
+        room: &mut Room,
         a: u32,
         at: u64,
         size: u32,
@@ -569,13 +582,14 @@ impl<T: Copy> TraceStore<T> {
         ensures runs { IfOk result (λ lists.
             ArePutEach (bases_of self.now) (traces_of self.now) (a - 1) at size bytes.now 0
             lists.items) }
+        ensures memory { Rises (IsErr result) room.old room.new }
     {
         let count = bytes.len() / size as usize;
-        let mut lists = Vec::with_capacity(alloc, count)?;
+        let mut lists = room.told(Vec::with_capacity(room.alloc(), count))?;
         for k in 0..count {
             let part = part(bytes, size, k);
-            let runs = self.runs_with(alloc, a + k as u32, at, part)?;
-            lists.push(runs)?;
+            let runs = self.runs_with(room, a + k as u32, at, part)?;
+            room.told_back(lists.push(runs))?;
         }
         Ok(lists)
     }
@@ -583,7 +597,7 @@ impl<T: Copy> TraceStore<T> {
     // The runs of trace p with the bytes laid over it from place `at` on, counted from 0.
     pub(crate) fn runs_with(
         &self,
-        alloc: Global,
+        room: &mut Room,
         p: u32,
         at: u64,
         bytes: &[u8],
@@ -593,12 +607,14 @@ impl<T: Copy> TraceStore<T> {
         requires some { 0 < length bytes.now }
         requires inside { at + length bytes.now ≤ length
             (slice_index_or (traces_of self.now) (p - 1) []) }
-        ensures { IfOk result (λ list. ArePutRuns (slice_index_or (bases_of self.now) (p - 1) [])
+        ensures runs { IfOk result (λ list. ArePutRuns
+            (slice_index_or (bases_of self.now) (p - 1) [])
             (slice_index_or (traces_of self.now) (p - 1) []) at bytes.now list) }
+        ensures memory { Rises (IsErr result) room.old room.new }
     {
         let id = self.id(p);
         match self.slots.get(id) {
-            Some(slot) => slot.layers.runs_with(alloc, at, bytes),
+            Some(slot) => slot.layers.runs_with(room, at, bytes),
             None => unreachable!(),
         }
     }
@@ -647,7 +663,7 @@ impl<T: Copy> TraceStore<T> {
     /// refused, nothing is changed.
     pub fn insert(
         &mut self,
-        alloc: Global,
+        room: &mut Room,
         p: u32,
         base: Base,
         payload: T,
@@ -667,11 +683,12 @@ impl<T: Copy> TraceStore<T> {
         ensures payloads { OnErr result (payloads_of self.new ≡ payloads_of self.old) }
         ensures bases { OnErr result (bases_of self.new ≡ bases_of self.old) }
         ensures room { OnErr result (self.old.order.spare ≤ self.new.order.spare) }
+        ensures memory { Rises (IsErr result) room.old room.new }
     {
-        let layers = Layers::over(alloc, base)?;
-        self.slots.reserve(1)?;
+        let layers = Layers::over(room, base)?;
+        room.told(self.slots.reserve(1))?;
         let id = self.slots.insert_reserved(Slot { layers, payload });
-        if self.order.reserve_one(alloc).is_err() {
+        if self.order.reserve_one(room).is_err() {
             let _ = self.slots.remove(id);
             return Err(OutOfMemory);
         }

@@ -1,10 +1,12 @@
 // The bytes of a pass that were read and are not taken yet.
-ghost use Rattle.std.specs.Prelude.{ℕ, ◌≡◌, ◌+◌, ◌≤◌, ◌++◌, [], length, take, drop, IfErr, IfOk, OnErr, OnOk};
+ghost use Rattle.std.specs.Prelude.{ℕ, ◌≡◌, ◌+◌, ◌≤◌, ◌++◌, [], length, take, drop, IfErr, IfOk, IsErr, IsErrOf, OnErr, OnOk};
+ghost use Rattle.room.specs.Refusals.{Rises};
 ghost use Rattle.base_file.specs.HeldBytes.{HasGrown};
 
 use base_file::{Held, ReadFault};
 use frame_cut::LoadFault;
-use std::alloc::{AllocError, Global};
+use room::{OutOfMemory, Room};
+use std::alloc::Global;
 use std::marker::Model;
 
 /// The next bytes of a file that is read from its front to its end, once: those that were read and
@@ -72,8 +74,14 @@ impl Window {
 
     /// Reads on until there are n bytes. No byte of the file behind the first `size` is read. Takes
     /// memory where they are more than there were at once before. Refused with L01 where a read
-    /// failed or the file ends before, and with L16 where memory was refused.
-    pub fn hold(&mut self, held: &mut Held, n: usize, size: u64) -> Result<(), LoadFault>
+    /// failed or the file ends before, and with L16 where memory was refused in this call.
+    pub fn hold(
+        &mut self,
+        room: &mut Room,
+        held: &mut Held,
+        n: usize,
+        size: u64,
+    ) -> Result<(), LoadFault>
         requires { length held.old.bytes ≤ size }
         ensures grown { HasGrown held.old held.new }
         ensures next { (at : ℕ) → IsNextOf held.old.bytes at self.old.bytes →
@@ -81,22 +89,24 @@ impl Window {
         ensures within { length held.new.bytes ≤ size }
         ensures there { OnOk result (n ≤ length self.new.bytes) }
         ensures fault { IfErr result IsFaultOfPass }
+        ensures memory { Rises (IsErrOf result LoadFault.OutOfMemory) room.old room.new }
     {
-        if self.make_room(n).is_err() {
+        if self.make_room(room, n).is_err() {
             return Err(LoadFault::OutOfMemory);
         }
         self.read_up_to(held, n, size)
     }
 
     // Makes room for n bytes, those that there are among them.
-    fn make_room(&mut self, n: usize) -> Result<(), AllocError>
-        ensures { self.new.bytes ≡ self.old.bytes }
+    fn make_room(&mut self, room: &mut Room, n: usize) -> Result<(), OutOfMemory>
+        ensures bytes { self.new.bytes ≡ self.old.bytes }
+        ensures memory { Rises (IsErr result) room.old room.new }
     {
         if self.block.len() - self.start >= n {
             return Ok(());
         }
         self.close_up();
-        self.lengthen(n.max(BLOCK))
+        self.lengthen(room, n.max(BLOCK))
     }
 
     // Moves the bytes to the front of the block.
@@ -109,11 +119,12 @@ impl Window {
     }
 
     // Makes the block this long, if it is shorter.
-    fn lengthen(&mut self, n: usize) -> Result<(), AllocError>
-        ensures { self.new.bytes ≡ self.old.bytes }
+    fn lengthen(&mut self, room: &mut Room, n: usize) -> Result<(), OutOfMemory>
+        ensures bytes { self.new.bytes ≡ self.old.bytes }
+        ensures memory { Rises (IsErr result) room.old room.new }
     {
         if self.block.len() < n {
-            self.block.resize(n, 0)?;
+            room.told(self.block.resize(n, 0))?;
         }
         Ok(())
     }
@@ -126,7 +137,7 @@ impl Window {
             IsNextOf held.new.bytes at self.new.bytes }
         ensures within { length held.new.bytes ≤ size }
         ensures there { OnOk result (n ≤ length self.new.bytes) }
-        ensures fault { IfErr result IsFaultOfPass }
+        ensures fault { IfErr result (λ fault. fault ≡ LoadFault.ReadFailed) }
     {
         'turns: while self.len() < n {
             if self.read_some(held, size)? == 0 {
@@ -144,7 +155,7 @@ impl Window {
             IsNextOf held.new.bytes at self.new.bytes }
         ensures within { length held.new.bytes ≤ size }
         ensures count { IfOk result (λ n. length self.new.bytes ≡ length self.old.bytes + n) }
-        ensures fault { IfErr result IsFaultOfPass }
+        ensures fault { IfErr result (λ fault. fault ≡ LoadFault.ReadFailed) }
     {
         let left = size - held.length();
         let room = self.block.len() - self.end;

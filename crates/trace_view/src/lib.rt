@@ -6,15 +6,15 @@
 //! `changed_length` and `overlaid_length` tell the length that changed headers would give the
 //! trace. `put_run` lays one more run over others.
 //!
-//! `put_run` takes memory, and the other calls take none. Bytes of a header count from 1, as in the
-//! standard, header extensions from 1, and samples from 0; the place of a run, and any other place
-//! in the whole trace, is counted from 0.
+//! `put_run` takes memory, and gives up only where a growth was refused in that call; the other
+//! calls take none. Bytes of a header count from 1, as in the standard, header extensions from 1,
+//! and samples from 0; the place of a run, and any other place in the whole trace, is counted from
+//! 0.
 #![tactic(auto)]
 
 mod cursor;
 mod gap;
 mod lengths;
-mod out_of_memory;
 mod overlaid;
 mod part;
 mod pieces;
@@ -25,10 +25,10 @@ mod stretches;
 mod view;
 
 pub use crate::lengths::overlaid_length;
-pub use crate::out_of_memory::OutOfMemory;
 pub use crate::part::Part;
 pub use crate::pieces::Pieces;
 pub use crate::put::put_run;
 pub use crate::run::Run;
 pub use crate::samples::Samples;
 pub use crate::view::TraceView;
+pub use room::OutOfMemory;

@@ -1,12 +1,12 @@
-ghost use Rattle.std.specs.Prelude.{◌≡◌, ◌+◌, ◌<◌, ◌≤◌, ◌++◌, ◌∷◌, take, drop, length, count_by, IfOk, OnOk};
+ghost use Rattle.std.specs.Prelude.{◌≡◌, ◌+◌, ◌<◌, ◌≤◌, ◌++◌, ◌∷◌, take, drop, length, count_by, IfOk, IsErr, OnOk};
+ghost use Rattle.room.specs.Refusals.{Rises};
 ghost use Rattle.trace_view.specs.Runs.{Fit};
 ghost use Rattle.trace_view.specs.Puts.{contents, is_in_front, is_behind, ShowPut};
 
 use crate::gap::{gap_before, gap_behind};
-use crate::out_of_memory::OutOfMemory;
 use crate::run::Run;
+use room::{OutOfMemory, Room};
 use smallvec::SmallVec;
-use std::alloc::Global;
 
 /// The runs with these bytes laid over them from `at` on, as a new list: over each base of `size`
 /// bytes they show the bytes that the old ones show, with these in their place. One run takes in
@@ -15,7 +15,7 @@ use std::alloc::Global;
 /// ones. Takes memory for the list, and for each run of more than 16 bytes; where that is refused
 /// there is no list. Costs a copy of all runs.
 pub fn put_run(
-    alloc: Global,
+    room: &mut Room,
     size: u64,
     runs: &[Run],
     at: u64,
@@ -29,18 +29,19 @@ pub fn put_run(
     ensures count { IfOk result (λ list. length list.items ≡
         count_by (is_in_front at) runs.now + 1 + count_by (is_behind (at + length bytes.now))
         runs.now) }
+    ensures memory { Rises (IsErr result) room.old room.new }
 {
     let end = at + bytes.len() as u64;
     let front = gap_before(runs, size, at);
     let back = gap_behind(runs, size, end);
-    let run = joined(alloc, front.place, front.bytes, bytes, back.bytes)?;
-    let list = exchanged(alloc, runs, front.index, run, back.index)?;
+    let run = joined(room, front.place, front.bytes, bytes, back.bytes)?;
+    let list = exchanged(room, runs, front.index, run, back.index)?;
     Ok(list)
 }
 
 // The run of the old bytes from the start on, the new ones, and the old ones behind them.
 fn joined(
-    alloc: Global,
+    room: &mut Room,
     start: u64,
     front: &[u8],
     bytes: &[u8],
@@ -49,11 +50,12 @@ fn joined(
     ensures at { IfOk result (λ run. run.at ≡ start) }
     ensures bytes { IfOk result
         (λ run. run.bytes.items ≡ front.now ++ (bytes.now ++ back.now)) }
+    ensures memory { Rises (IsErr result) room.old room.new }
 {
-    let mut all = SmallVec::new(alloc);
-    all.extend_from_slice(front)?;
-    all.extend_from_slice(bytes)?;
-    all.extend_from_slice(back)?;
+    let mut all = SmallVec::new(room.alloc());
+    room.told(all.extend_from_slice(front))?;
+    room.told(all.extend_from_slice(bytes))?;
+    room.told(all.extend_from_slice(back))?;
     Ok(Run {
         at: start,
         bytes: all,
@@ -62,7 +64,7 @@ fn joined(
 
 // Copies of the runs in front of `first` and of those from `last` on, with this one between them.
 fn exchanged(
-    alloc: Global,
+    room: &mut Room,
     runs: &[Run],
     first: usize,
     run: Run,
@@ -70,25 +72,28 @@ fn exchanged(
 ) -> Result<Vec<Run>, OutOfMemory>
     requires first { first ≤ length runs.now }
     requires last { last ≤ length runs.now }
-    ensures { IfOk result
+    ensures contents { IfOk result
         (λ list. contents list.items ≡ contents (take first runs.now ++ run ∷ drop last runs.now)) }
+    ensures memory { Rises (IsErr result) room.old room.new }
 {
-    // Room for these runs and no more: a list stays as it was made until the next put.
+    // Memory for these runs and no more: a list stays as it was made until the next put.
     let count = first.saturating_add(runs.len() - last).saturating_add(1);
-    let mut list = Vec::with_capacity(alloc, count)?;
-    push_copies(alloc, &mut list, &runs[..first])?;
-    list.push(run)?;
-    push_copies(alloc, &mut list, &runs[last..])?;
+    let mut list = room.told(Vec::with_capacity(room.alloc(), count))?;
+    push_copies(room, &mut list, &runs[..first])?;
+    room.told_back(list.push(run))?;
+    push_copies(room, &mut list, &runs[last..])?;
     Ok(list)
 }
 
 // Copies of the runs, at the end of the list.
-fn push_copies(alloc: Global, list: &mut Vec<Run>, runs: &[Run]) -> Result<(), OutOfMemory>
-    ensures { OnOk result (contents list.new.items ≡ contents list.old.items ++ contents runs.now) }
+fn push_copies(room: &mut Room, list: &mut Vec<Run>, runs: &[Run]) -> Result<(), OutOfMemory>
+    ensures contents { OnOk result
+        (contents list.new.items ≡ contents list.old.items ++ contents runs.now) }
+    ensures memory { Rises (IsErr result) room.old room.new }
 {
     for run in runs {
-        let bytes = SmallVec::from_slice(alloc, run.bytes.as_slice())?;
-        list.push(Run { at: run.at, bytes })?;
+        let bytes = room.told(SmallVec::from_slice(room.alloc(), run.bytes.as_slice()))?;
+        room.told_back(list.push(Run { at: run.at, bytes }))?;
     }
     Ok(())
 }

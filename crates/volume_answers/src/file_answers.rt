@@ -1,6 +1,7 @@
 // The answers about the file as a whole and about its binary header and its field map. None looks
 // at a trace.
-ghost use Rattle.std.specs.Prelude.{◌≡◌, Ok, length};
+ghost use Rattle.std.specs.Prelude.{◌≡◌, Ok, length, IsErrOf, ◌≢◌, IfErr};
+ghost use Rattle.room.specs.Refusals.{Rises};
 ghost use Rattle.frame_cut.specs.Traces.{count_of};
 ghost use Rattle.frame_cut.specs.Volume.{bytes_of};
 ghost use Rattle.bench_rules.specs.declared.query.Query.TheVariants as queries;
@@ -11,7 +12,7 @@ use bench_rules::{Answer, AskFault, Field, Info, Items, Text, binary_value, plac
 use edit_overlay::Overlay;
 use field_map::FieldMap;
 use frame_cut::Reading;
-use std::alloc::Global;
+use room::Room;
 use trace_record::PackedRecord;
 
 /// The number of traces. Takes no memory.
@@ -36,8 +37,9 @@ pub fn info_answer(overlay: &Overlay<PackedRecord>, reading: Reading) -> Answer
 
 /// The number in the field of the binary header. Takes no memory. Refused: E02, E03.
 pub fn get_bin_answer(overlay: &Overlay<PackedRecord>, field: &Field) -> Result<Answer, AskFault>
-    ensures { (s : State) → s.volume ≡ overlay.now.volume →
+    ensures reply { (s : State) → s.volume ≡ overlay.now.volume →
         result ≡ answer s (queries.GetBin field.now) }
+    ensures other { IfErr result (λ fault. fault ≢ AskFault.OutOfMemory) }
 {
     let Some(place) = place_in_binary(field) else {
         return Err(AskFault::NoField);
@@ -50,12 +52,14 @@ pub fn get_bin_answer(overlay: &Overlay<PackedRecord>, field: &Field) -> Result<
 
 /// The bound names with their places, in the map's order. Takes memory; refused for want of it
 /// alone, E11.
-pub fn fields_answer(alloc: Global, fields: &FieldMap) -> Result<Answer, AskFault>
-    ensures { (s : State) → s.fields ≡ fields.now.pairs → IsReply s queries.Fields result }
+pub fn fields_answer(room: &mut Room, fields: &FieldMap) -> Result<Answer, AskFault>
+    ensures reply { (s : State) → s.fields ≡ fields.now.pairs → IsReply s queries.Fields result }
+    ensures memory { Rises (IsErrOf result AskFault.OutOfMemory) room.old room.new }
 {
-    let mut all = Vec::new(alloc);
+    let mut all = Vec::new(room.alloc());
     for (name, place) in fields.entries() {
-        all.push((Text::new(String::from_str(alloc, name)?), place))?;
+        let text = room.told(String::from_str(room.alloc(), name))?;
+        room.told_back(all.push((Text::new(text), place)))?;
     }
     Ok(Answer::Fields(Items::new(all)))
 }

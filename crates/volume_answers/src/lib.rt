@@ -10,7 +10,8 @@
 //! contracts tell what an edit has to know of a trace, as that its place lies inside.
 //!
 //! Traces and the lines of a block count from 1, samples of a trace from 0. A call takes memory
-//! where it is lent an allocator, for an answer that is a text or a list.
+//! where it is lent a room, for an answer that is a text or a list, and gives up for want of it
+//! only where a growth was refused in that call.
 #![tactic(auto)]
 
 mod file_answers;

@@ -1,5 +1,5 @@
 // The first refusals of edits of one trace, but for want of memory.
-ghost use Rattle.std.specs.Prelude.{◌≡◌, ◌+◌, ◌*◌, ◌⊎◌, Some, None, IsTrue, IfOk, IfErr, OnOk};
+ghost use Rattle.std.specs.Prelude.{◌≡◌, ◌+◌, ◌*◌, ◌⊎◌, Some, None, IsTrue, IfOk, IfErr, OnOk, ◌≢◌, IfSome};
 ghost use Rattle.sample_codes.specs.Formats.{width};
 ghost use Rattle.frame_cut.specs.Traces.{is_trace, trace_at};
 ghost use Rattle.trace_view.specs.Values.{samples_at};
@@ -34,6 +34,7 @@ pub fn value_refusal(
     ensures seen { IsSeen overlay.old overlay.new (trace_looks overlay.old.volume p 1) }
     ensures read { IfErr result (λ _. IsTrue (is_trace overlay.old.volume p)
         × IsTrue overlay.old.loaded.on_disk) }
+    ensures other { IfOk result (λ refusal. IfSome refusal (λ r. r ≢ Refusal.OutOfMemory)) }
 {
     let head = overlay.head();
     let Some(trace) = overlay.look(p)? else {
@@ -63,6 +64,7 @@ pub fn patch_place(
         first_refusal s (edits.Patch p k values.now) ≡ Some refusal)) }
     ensures there { OnOk result (IsTrue (is_trace overlay.old.volume p)) }
     ensures seen { IsSeen overlay.old overlay.new (trace_looks overlay.old.volume p 1) }
+    ensures other { IfErr result (λ refusal. refusal ≢ Refusal.OutOfMemory) }
 {
     let format = overlay.head().format;
     let Some(trace) = overlay.look(p)? else {
@@ -81,8 +83,9 @@ pub fn patch_place(
 /// The first refusal of a blank trace in front of trace p, or behind the last: E01, E09, E10. Takes
 /// no memory.
 pub fn blank_refusal(overlay: &Overlay<PackedRecord>, limits: Limits, p: u32) -> Option<Refusal>
-    ensures { (s : State) → s.volume ≡ overlay.now.volume → s.limits ≡ limits →
+    ensures refusal { (s : State) → s.volume ≡ overlay.now.volume → s.limits ≡ limits →
         result ≡ first_refusal s (edits.Blank p) }
+    ensures other { IfSome result (λ refusal. refusal ≢ Refusal.OutOfMemory) }
 {
     insert_refusal(overlay, limits, p, blank_length(&overlay.head()))
 }
@@ -100,6 +103,7 @@ pub fn copy_refusal(
     ensures seen { IsSeen overlay.old overlay.new (trace_looks overlay.old.volume q 1) }
     ensures read { IfErr result (λ _. IsTrue (is_trace overlay.old.volume q)
         × IsTrue overlay.old.loaded.on_disk) }
+    ensures other { IfOk result (λ refusal. IfSome refusal (λ r. r ≢ Refusal.OutOfMemory)) }
 {
     let length = match overlay.look(q)? {
         Some(trace) => trace.length(),
@@ -110,8 +114,9 @@ pub fn copy_refusal(
 
 /// The first refusal of trace a as trace b: E01. Takes no memory.
 pub fn move_refusal(overlay: &Overlay<PackedRecord>, a: u32, b: u32) -> Option<Refusal>
-    ensures { (s : State) → s.volume ≡ overlay.now.volume →
+    ensures refusal { (s : State) → s.volume ≡ overlay.now.volume →
         result ≡ first_refusal s (edits.Move a b) }
+    ensures other { IfSome result (λ refusal. refusal ≢ Refusal.OutOfMemory) }
 {
     match no_trace(overlay, a) {
         Some(refusal) => Some(refusal),
@@ -121,7 +126,8 @@ pub fn move_refusal(overlay: &Overlay<PackedRecord>, a: u32, b: u32) -> Option<R
 
 // The first refusal of a trace's number: E01.
 fn no_trace(overlay: &Overlay<PackedRecord>, p: u32) -> Option<Refusal>
-    ensures { result ≡ no_trace_in overlay.now.volume p }
+    ensures refusal { result ≡ no_trace_in overlay.now.volume p }
+    ensures other { IfSome result (λ refusal. refusal ≢ Refusal.OutOfMemory) }
 {
     if has_trace(overlay, p) {
         None
@@ -137,7 +143,8 @@ fn insert_refusal(
     p: u32,
     length: u64,
 ) -> Option<Refusal>
-    ensures { result ≡ not_in overlay.now.volume limits p length }
+    ensures refusal { result ≡ not_in overlay.now.volume limits p length }
+    ensures other { IfSome result (λ refusal. refusal ≢ Refusal.OutOfMemory) }
 {
     match no_place_for_trace(overlay, p) {
         Some(refusal) => Some(refusal),
@@ -147,7 +154,8 @@ fn insert_refusal(
 
 // The first refusal of a place for a trace, up to one behind the last: E01.
 fn no_place_for_trace(overlay: &Overlay<PackedRecord>, p: u32) -> Option<Refusal>
-    ensures { result ≡ no_place_in overlay.now.volume p }
+    ensures refusal { result ≡ no_place_in overlay.now.volume p }
+    ensures other { IfSome result (λ refusal. refusal ≢ Refusal.OutOfMemory) }
 {
     let count = overlay.count();
     if p >= 1 && u64::from(p) <= u64::from(count) + 1 {
@@ -159,7 +167,8 @@ fn no_place_for_trace(overlay: &Overlay<PackedRecord>, p: u32) -> Option<Refusal
 
 // The refusal of one more trace of so many bytes: E09, E10.
 fn room_refusal(overlay: &Overlay<PackedRecord>, limits: Limits, length: u64) -> Option<Refusal>
-    ensures { result ≡ no_room_in overlay.now.volume limits length }
+    ensures refusal { result ≡ no_room_in overlay.now.volume limits length }
+    ensures other { IfSome result (λ refusal. refusal ≢ Refusal.OutOfMemory) }
 {
     if length > limits.bytes() || overlay.length() > limits.bytes() - length {
         return Some(Refusal::TooLarge);

@@ -1,6 +1,7 @@
 // The answers of the reports, from the records of a volume's traces and the values that run with
 // them. None looks at a trace.
-ghost use Rattle.std.specs.Prelude.{◌≡◌, ◌<◌, ◌^◌, ℕ, List, length, false, Ok};
+ghost use Rattle.std.specs.Prelude.{◌≡◌, ◌<◌, ◌^◌, ℕ, List, length, false, Ok, IsErrOf};
+ghost use Rattle.room.specs.Refusals.{Rises};
 ghost use Rattle.field_map.specs.Pairs.{Pairs};
 ghost use Rattle.frame_cut.specs.declared.file_head.Head.{Head as Heads};
 ghost use Rattle.trace_view.specs.Values.{has_floats, samples_of};
@@ -20,7 +21,7 @@ use fault_live::{Faults, HeadFacts};
 use grid_live::Grid;
 use range_stats::{Quantity, Ranges, Totals};
 use record_table::Records;
-use std::alloc::Global;
+use room::Room;
 use trace_record::{Record, Statistics};
 
 /// Where the trace of this record lies. Takes no memory.
@@ -63,32 +64,36 @@ pub fn fold(grid: &Grid, inline: i128, crossline: i128) -> Answer
 }
 
 /// The cells that have traces. Takes memory for the list; refused for want of it alone, E11.
-pub fn cells(alloc: Global, grid: &Grid) -> Result<Answer, AskFault>
-    ensures { (s : State) → IsGridOf s grid.now → IsReply s queries.Grid result }
+pub fn cells(room: &mut Room, grid: &Grid) -> Result<Answer, AskFault>
+    ensures reply { (s : State) → IsGridOf s grid.now → IsReply s queries.Grid result }
+    ensures memory { Rises (IsErrOf result AskFault.OutOfMemory) room.old room.new }
 {
-    Ok(Answer::Grid(Items::new(grid.cells(alloc)?)))
+    Ok(Answer::Grid(Items::new(grid.cells(room)?)))
 }
 
 /// The inlines that have traces. Takes memory for the list; refused for want of it alone, E11.
-pub fn inlines(alloc: Global, grid: &Grid) -> Result<Answer, AskFault>
-    ensures { (s : State) → IsGridOf s grid.now → IsReply s queries.Inlines result }
+pub fn inlines(room: &mut Room, grid: &Grid) -> Result<Answer, AskFault>
+    ensures reply { (s : State) → IsGridOf s grid.now → IsReply s queries.Inlines result }
+    ensures memory { Rises (IsErrOf result AskFault.OutOfMemory) room.old room.new }
 {
-    Ok(Answer::Inlines(Items::new(grid.inlines(alloc)?)))
+    Ok(Answer::Inlines(Items::new(grid.inlines(room)?)))
 }
 
 /// The crosslines that have traces. Takes memory for the list; refused for want of it alone, E11.
-pub fn crosslines(alloc: Global, grid: &Grid) -> Result<Answer, AskFault>
-    ensures { (s : State) → IsGridOf s grid.now → IsReply s queries.Crosslines result }
+pub fn crosslines(room: &mut Room, grid: &Grid) -> Result<Answer, AskFault>
+    ensures reply { (s : State) → IsGridOf s grid.now → IsReply s queries.Crosslines result }
+    ensures memory { Rises (IsErrOf result AskFault.OutOfMemory) room.old room.new }
 {
-    Ok(Answer::Crosslines(Items::new(grid.crosslines(alloc)?)))
+    Ok(Answer::Crosslines(Items::new(grid.crosslines(room)?)))
 }
 
 /// How many cells have each fold. Takes memory for the list and while it is made; refused for want
 /// of it alone, E11.
-pub fn histogram(alloc: Global, grid: &Grid) -> Result<Answer, AskFault>
-    ensures { (s : State) → IsGridOf s grid.now → IsReply s queries.Histogram result }
+pub fn histogram(room: &mut Room, grid: &Grid) -> Result<Answer, AskFault>
+    ensures reply { (s : State) → IsGridOf s grid.now → IsReply s queries.Histogram result }
+    ensures memory { Rises (IsErrOf result AskFault.OutOfMemory) room.old room.new }
 {
-    Ok(Answer::Histogram(Items::new(grid.histogram(alloc)?)))
+    Ok(Answer::Histogram(Items::new(grid.histogram(room)?)))
 }
 
 /// The least and the greatest value of this kind. Takes no memory.
@@ -131,14 +136,15 @@ fn all_four(
 /// The faults of the file with these headers and records. Takes memory for the list and while it is
 /// made; refused for want of it alone, E11.
 pub fn faults(
-    alloc: Global,
+    room: &mut Room,
     triples: &Faults,
     records: &Records,
     head: &HeadFacts,
 ) -> Result<Answer, AskFault>
     requires { length records.now < 2 ^ 32 }
-    ensures { (s : State) → AreTriplesOf s triples.now → AreRecordsOf s records.now →
+    ensures reply { (s : State) → AreTriplesOf s triples.now → AreRecordsOf s records.now →
         head.now ≡ head_facts_of s.volume → IsReply s queries.Faults result }
+    ensures memory { Rises (IsErrOf result AskFault.OutOfMemory) room.old room.new }
 {
-    Ok(Answer::Faults(Items::new(triples.report(alloc, records, head)?)))
+    Ok(Answer::Faults(Items::new(triples.report(room, records, head)?)))
 }

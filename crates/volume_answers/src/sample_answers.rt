@@ -1,5 +1,6 @@
 // The answers about the samples of all traces, and about the faults of the file.
-ghost use Rattle.std.specs.Prelude.{◌≡◌, ◌<◌, ◌^◌, length, map};
+ghost use Rattle.std.specs.Prelude.{◌≡◌, ◌<◌, ◌^◌, length, map, IsErrOf, ◌≢◌, IfErr};
+ghost use Rattle.room.specs.Refusals.{Rises};
 ghost use Rattle.trace_record.specs.Packed.{record_in};
 ghost use Rattle.bench_rules.specs.declared.query.Query.TheVariants as queries;
 ghost use Rattle.bench_rules.specs.Answer.{answer, IsReply};
@@ -13,13 +14,14 @@ use edit_overlay::Overlay;
 use fault_live::Faults;
 use range_stats::Totals;
 use record_table::Records;
-use std::alloc::Global;
+use room::Room;
 use trace_record::PackedRecord;
 
 /// The statistics of all samples. Takes no memory and looks at no trace. Refused: E12.
 pub fn totals_answer(overlay: &Overlay<PackedRecord>, counted: &Totals) -> Result<Answer, AskFault>
-    ensures { (s : State) → s.volume ≡ overlay.now.volume → AreTotalsOf s counted.now →
+    ensures reply { (s : State) → s.volume ≡ overlay.now.volume → AreTotalsOf s counted.now →
         result ≡ answer s queries.Totals }
+    ensures other { IfErr result (λ fault. fault ≢ AskFault.OutOfMemory) }
 {
     if has_opaque_samples(overlay) {
         return Err(AskFault::NoValues);
@@ -30,15 +32,16 @@ pub fn totals_answer(overlay: &Overlay<PackedRecord>, counted: &Totals) -> Resul
 /// What the headers contradict each other in, or the traces each other. Takes memory for the list
 /// and while it is made; refused for want of it alone, E11. Looks at no trace.
 pub fn faults_answer(
-    alloc: Global,
+    room: &mut Room,
     overlay: &Overlay<PackedRecord>,
     triples: &Faults,
 ) -> Result<Answer, AskFault>
     requires { length overlay.now.payloads < 2 ^ 32 }
-    ensures { (s : State) → s.volume ≡ overlay.now.volume →
+    ensures reply { (s : State) → s.volume ≡ overlay.now.volume →
         AreRecordsOf s (map record_in overlay.now.payloads) → AreTriplesOf s triples.now →
         IsReply s queries.Faults result }
+    ensures memory { Rises (IsErrOf result AskFault.OutOfMemory) room.old room.new }
 {
     let head = head_facts(overlay.head(), overlay.text(), overlay.bin());
-    faults(alloc, triples, &Records::new(overlay.payloads()), &head)
+    faults(room, triples, &Records::new(overlay.payloads()), &head)
 }

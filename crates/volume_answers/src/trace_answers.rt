@@ -1,5 +1,5 @@
 // The answers about the headers, the samples and the record of one trace.
-ghost use Rattle.std.specs.Prelude.{◌≡◌, ◌⊎◌, [], Some, true, false, IsTrue, IsErrAnd, option_map};
+ghost use Rattle.std.specs.Prelude.{◌≡◌, ◌⊎◌, [], Some, true, false, IsTrue, IsErrAnd, option_map, ◌≢◌, IfErr};
 ghost use Rattle.frame_cut.specs.Traces.{is_trace, trace_of};
 ghost use Rattle.trace_view.specs.Values.{has_floats};
 ghost use Rattle.trace_record.specs.Facts.{facts_of};
@@ -37,6 +37,7 @@ pub fn get_answer(
     ensures seen { IsSeen overlay.old overlay.new
         (looks_at (place_of_field map.now.pairs field.now)
         (trace_looks overlay.old.volume p 1)) }
+    ensures other { IfErr result (λ fault. fault ≢ AskFault.OutOfMemory) }
 {
     match place_in_trace(map, field) {
         Some(place) => value_at(overlay, p, place),
@@ -52,6 +53,7 @@ fn value_at(overlay: &mut Overlay<PackedRecord>, p: u32, place: Place) -> Result
         IsErrAnd result (λ fault. IsTrue (is_trace overlay.old.volume p) ×
         IsReadFault overlay.old.loaded.on_disk fault) }
     ensures seen { IsSeen overlay.old overlay.new (trace_looks overlay.old.volume p 1) }
+    ensures other { IfErr result (λ fault. fault ≢ AskFault.OutOfMemory) }
 {
     let Some(trace) = overlay.look(p)? else {
         return Err(AskFault::NoTrace(p, overlay.count()));
@@ -73,6 +75,7 @@ pub fn sample_answer(
         s.on_disk ≡ overlay.old.loaded.on_disk → IsTrue overlay.new.agreed →
         IsReply s (queries.Sample p k) result }
     ensures seen { IsSeen overlay.old overlay.new (trace_looks overlay.old.volume p 1) }
+    ensures other { IfErr result (λ fault. fault ≢ AskFault.OutOfMemory) }
 {
     let Some(trace) = overlay.look(p)? else {
         return Err(AskFault::NoTrace(p, overlay.count()));
@@ -87,9 +90,10 @@ pub fn geometry_answer(
     overlay: &Overlay<PackedRecord>,
     p: u32,
 ) -> Result<Answer, AskFault>
-    ensures { (s : State) → s.volume ≡ overlay.now.volume → option_map facts_of trace ≡
+    ensures reply { (s : State) → s.volume ≡ overlay.now.volume → option_map facts_of trace ≡
         option_map (record_of s.volume.head s.fields) (trace_of s.volume p) →
         result ≡ answer s (queries.Geometry p) }
+    ensures other { IfErr result (λ fault. fault ≢ AskFault.OutOfMemory) }
 {
     match trace {
         Some(trace) => Ok(geometry(&trace)),
@@ -111,6 +115,7 @@ pub fn stat_answer(
         option_map facts_of trace ≡ option_map (record_of s.volume.head s.fields)
         (trace_of s.volume p) → IsReply s (queries.Stat p) result }
     ensures seen { IsSeen overlay.old overlay.new (stat_looks overlay.old.volume p) }
+    ensures other { IfErr result (λ fault. fault ≢ AskFault.OutOfMemory) }
 {
     if has_float_samples(overlay) {
         return stat_of_floats(overlay, p);
@@ -125,6 +130,7 @@ fn stat_of_floats(overlay: &mut Overlay<PackedRecord>, p: u32) -> Result<Answer,
         s.on_disk ≡ overlay.old.loaded.on_disk → IsTrue overlay.new.agreed →
         IsReply s (queries.Stat p) result }
     ensures seen { IsSeen overlay.old overlay.new (stat_looks overlay.old.volume p) }
+    ensures other { IfErr result (λ fault. fault ≢ AskFault.OutOfMemory) }
 {
     let Some(trace) = overlay.look(p)? else {
         return Err(AskFault::NoTrace(p, overlay.count()));
@@ -138,10 +144,11 @@ fn stat_of_numbers(
     overlay: &Overlay<PackedRecord>,
     p: u32,
 ) -> Result<Answer, AskFault>
-    ensures { (s : State) → s.volume ≡ overlay.now.volume →
+    ensures reply { (s : State) → s.volume ≡ overlay.now.volume →
         has_floats s.volume.head ≡ false → option_map facts_of trace ≡
         option_map (record_of s.volume.head s.fields) (trace_of s.volume p) →
         result ≡ answer s (queries.Stat p) }
+    ensures other { IfErr result (λ fault. fault ≢ AskFault.OutOfMemory) }
 {
     let Some(trace) = trace else {
         return Err(AskFault::NoTrace(p, overlay.count()));

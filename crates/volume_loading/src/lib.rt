@@ -10,7 +10,8 @@
 //! `push` for the trace's place in the order, and for the extent of a trace of 2^32 bytes or more.
 //! Each of them may be refused for want of memory, and then nothing is changed. The calls of a
 //! [`Passing`] take memory for the longest part of the file that is shown at once, and for the
-//! table of its traces. No other call takes any.
+//! table of its traces. Each is refused for want of memory only where a growth was refused in that
+//! call. No other call takes any.
 #![tactic(auto)]
 
 mod loading;

@@ -1,7 +1,8 @@
 // A file that is being loaded.
-ghost use Rattle.std.specs.Prelude.{◌≡◌, ◌⊎◌, ◌↔◌, ◌+◌, ◌<◌, ◌≤◌, false, [], length, IfOk, IfErr, IfSome, IsSome, IsTrue, OnOk, OnErr, MatchResult};
+ghost use Rattle.std.specs.Prelude.{◌≡◌, ◌⊎◌, ◌↔◌, ◌+◌, ◌<◌, ◌≤◌, false, [], length, IfOk, IfErr, IfSome, IsErr, IsErrOf, IsSome, IsTrue, OnOk, OnErr, MatchResult};
 ghost use Rattle.std.specs.Borrow.{sem};
 ghost use Rattle.std.specs.Io.KnownBytes.{Consumes, IsAtEnd};
+ghost use Rattle.room.specs.Refusals.{Rises};
 ghost use Rattle.frame_cut.specs.Cuts.{IsCut, IsRefused};
 ghost use Rattle.frame_cut.specs.Traces.{count_of};
 ghost use Rattle.frame_cut.specs.Volume.{bytes_of};
@@ -13,11 +14,11 @@ use crate::reading_in::read_file;
 use device_io::Source;
 use edit_overlay::{Overlay, array_at};
 use frame_cut::{BINARY_HEADER_BYTES, Extent, Head, Limits, LoadFault, Reading, cut};
-use std::alloc::Global;
+use room::{OutOfMemory, Room};
 use std::io::Read;
 use std::marker::Model;
 use text_block::TEXT_BLOCK_BYTES;
-use trace_store::{Base, OutOfMemory, TraceStore};
+use trace_store::{Base, TraceStore};
 use trace_view::TraceView;
 
 /// A file that was read and cut, whose traces get their payloads one after another: `next_trace`
@@ -48,10 +49,10 @@ impl<T: Copy> Loading<T> {
     ghost use Rattle.volume_loading.specs.Looks.{EndsSeen};
 
     /// Reads a whole file and cuts it. Takes memory. Refused: L01 where a read failed in this call,
-    /// L02 to L15 or L17 for the first reason that the file gives, L16 where no memory was. A
-    /// refused load has taken at most one byte above the limit.
+    /// L02 to L15 or L17 for the first reason that the file gives, L16 where a growth was refused
+    /// in this call. A refused load has taken at most one byte above the limit.
     pub fn load<R: Read>(
-        alloc: Global,
+        room: &mut Room,
         reader: &mut Source<R>,
         reading: Reading,
         limits: Limits,
@@ -63,7 +64,7 @@ impl<T: Copy> Loading<T> {
         ensures cut { IfOk result (λ l. IsCut (bytes_of l.volume) reading limits l.volume) }
         ensures payloads { IfOk result (λ l. l.payloads ≡ []) }
         ensures looks { IfOk result (λ l. l.looks ≡ 0) }
-        ensures memory { IfOk result (λ l. l.loaded.on_disk ≡ false) }
+        ensures in_memory { IfOk result (λ l. l.loaded.on_disk ≡ false) }
         ensures loaded { IfOk result (λ l. l.loaded.bytes ≡ bytes_of l.volume) }
         ensures agreed { IfOk result (λ l. IsTrue l.agreed) }
         ensures refused { IfErr result (λ fault. IsLoadFault (R.remaining reader.old.inner) reading
@@ -72,16 +73,17 @@ impl<T: Copy> Loading<T> {
             (R.remaining reader.new.inner) limits) }
         ensures failures { MatchResult result (λ _. reader.new.failures ≡ reader.old.failures)
             (λ fault. FailuresAfterRefusal fault reader.old.failures reader.new.failures) }
+        ensures memory { Rises (IsErrOf result LoadFault.OutOfMemory) room.old room.new }
     {
-        let bytes = read_file(alloc, reader, limits)?;
-        Loading::from_bytes(alloc, bytes, reading, limits)
+        let bytes = read_file(room, reader, limits)?;
+        Loading::from_bytes(room, bytes, reading, limits)
     }
 
     /// Cuts a file that is in memory. Takes memory for the list of traces, and for a slot for each.
     /// Refused: L02 to L15 or L17 for the first reason that the file gives, L16 where a growth was
-    /// refused; the bytes are then dropped.
+    /// refused in this call; the bytes are then dropped.
     pub fn from_bytes(
-        alloc: Global,
+        room: &mut Room,
         bytes: Vec<u8>,
         reading: Reading,
         limits: Limits,
@@ -89,19 +91,20 @@ impl<T: Copy> Loading<T> {
         ensures cut { IfOk result (λ l. IsCut bytes.items reading limits l.volume) }
         ensures payloads { IfOk result (λ l. l.payloads ≡ []) }
         ensures looks { IfOk result (λ l. l.looks ≡ 0) }
-        ensures memory { IfOk result (λ l. l.loaded.on_disk ≡ false) }
+        ensures in_memory { IfOk result (λ l. l.loaded.on_disk ≡ false) }
         ensures loaded { IfOk result (λ l. l.loaded.bytes ≡ bytes_of l.volume) }
         ensures agreed { IfOk result (λ l. IsTrue l.agreed) }
         ensures refused { IfErr result (λ fault. (fault ≡ no_memory) ⊎
             IsRefused bytes.items reading limits fault) }
+        ensures memory { Rises (IsErrOf result LoadFault.OutOfMemory) room.old room.new }
     {
-        let cut = cut(alloc, bytes.as_slice(), reading, limits)?;
+        let cut = cut(room, bytes.as_slice(), reading, limits)?;
         // Read for the proof alone, which learns that the traces can be counted in 32 bits.
         let _most = limits.traces();
         let head = cut.head();
         let tail = cut.tail();
         let extents = cut.into_extents();
-        let Ok(store) = TraceStore::new(alloc, bytes, head, extents.len()) else {
+        let Ok(store) = TraceStore::new(room, bytes, head, extents.len()) else {
             return Err(LoadFault::OutOfMemory);
         };
         Ok(Loading {
@@ -151,15 +154,16 @@ impl<T: Copy> Loading<T> {
 
     /// Gives the first trace that has no payload this one. Takes memory for its place in the order;
     /// may be refused for want of it alone, and then nothing is changed.
-    pub fn push(&mut self, alloc: Global, payload: T) -> Result<(), OutOfMemory>
+    pub fn push(&mut self, room: &mut Room, payload: T) -> Result<(), OutOfMemory>
         requires { length self.old.payloads < count_of self.old.volume }
         ensures ok { OnOk result (self.new ≡ with_payload self.old payload) }
         ensures err { OnErr result (self.new ≡ self.old) }
+        ensures memory { Rises (IsErr result) room.old room.new }
     {
         let count = self.store.count();
         let extent = self.extents[count as usize];
         self.store
-            .insert(alloc, count + 1, Base::Loaded(extent), payload)?;
+            .insert(room, count + 1, Base::Loaded(extent), payload)?;
         Ok(())
     }
 

@@ -1,6 +1,7 @@
 // The reads of a pass over a file: what stands in front of its traces, each trace, and what stands
 // behind them.
-ghost use Rattle.std.specs.Prelude.{ℕ, ◌≡◌, ◌⊎◌, ◌+◌, ◌*◌, ◌<◌, ◌≤◌, List, length, take, drop, None, Some, Ok, Err, IfErr, IfOk, IfSome, OnOk};
+ghost use Rattle.std.specs.Prelude.{ℕ, ◌≡◌, ◌⊎◌, ◌+◌, ◌*◌, ◌<◌, ◌≤◌, List, length, take, drop, None, Some, Ok, Err, IfErr, IfOk, IfSome, IsErrOf, OnOk};
+ghost use Rattle.room.specs.Refusals.{Rises};
 ghost use Rattle.base_file.specs.HeldBytes.{HasGrown};
 ghost use Rattle.frame_cut.specs.Cuts.{IsTail, trace_refusal};
 ghost use Rattle.frame_cut.specs.Fronts.{BeginsWith};
@@ -15,7 +16,7 @@ use base_file::Held;
 use frame_cut::{
     Head, Limits, LoadFault, Reading, front_length, head_of_front, keeps, length_of_next,
 };
-use std::alloc::Global;
+use room::Room;
 use text_block::TEXT_BLOCK_BYTES;
 use trace_store::{TraceStore, Window};
 
@@ -25,6 +26,7 @@ const LEAST: u64 = 1 << 18;
 // Reads on until the head of the file is told. Takes memory. Refused as `Window::hold`, and for
 // the first reason that the bytes give.
 pub fn read_head(
+    room: &mut Room,
     held: &mut Held,
     window: &mut Window,
     size: u64,
@@ -39,11 +41,12 @@ pub fn read_head(
     ensures head { IfOk result (IsHeadOf held.new.bytes size reading limits) }
     ensures refused { IfErr result (λ fault. IsFaultOfPass fault ⊎
         IsHeadFault held.new.bytes size reading limits fault) }
+    ensures memory { Rises (IsErrOf result LoadFault.OutOfMemory) room.old room.new }
 {
     'turns: loop {
         let there = window.len() as u64;
         let wanted = there.saturating_add(there.max(LEAST)).min(size);
-        window.hold(held, wanted as usize, size)?;
+        window.hold(room, held, wanted as usize, size)?;
         let front = window.front(window.len());
         match head_of_front(front, size, reading, limits) {
             Ok(Some(head)) => return Ok(head),
@@ -56,7 +59,7 @@ pub fn read_head(
 // Reads the n bytes in front of the traces, and takes them. Takes memory. Refused as
 // `Window::hold`.
 pub fn read_front(
-    alloc: Global,
+    room: &mut Room,
     held: &mut Held,
     window: &mut Window,
     n: usize,
@@ -69,9 +72,10 @@ pub fn read_front(
     ensures within { length held.new.bytes ≤ size }
     ensures front { IfOk result (λ front. front.items ≡ take n held.new.bytes) }
     ensures fault { IfErr result IsFaultOfPass }
+    ensures memory { Rises (IsErrOf result LoadFault.OutOfMemory) room.old room.new }
 {
-    window.hold(held, n, size)?;
-    let Ok(front) = Vec::from_slice(alloc, window.front(n)) else {
+    window.hold(room, held, n, size)?;
+    let Ok(front) = room.told(Vec::from_slice(room.alloc(), window.front(n))) else {
         return Err(LoadFault::OutOfMemory);
     };
     window.skip(n);
@@ -82,6 +86,7 @@ pub fn read_front(
 // None where what is left there is less than a trace, and the reading keeps it. Takes memory.
 // Refused as `Window::hold`, and for the first reason that the bytes give.
 pub fn next_whole<T: Copy>(
+    room: &mut Room,
     store: &mut TraceStore<T>,
     window: &mut Window,
     reading: Reading,
@@ -107,23 +112,25 @@ pub fn next_whole<T: Copy>(
     ensures refused { IfErr result (λ fault. IsFaultOfPass fault ⊎
         IsTraceFault store.new.loaded.bytes size reading store.old.head limits
         (length (traces_of store.old) + 1) at fault) }
+    ensures memory { Rises (IsErrOf result LoadFault.OutOfMemory) room.old room.new }
 {
     let left = size - at - TEXT_BLOCK_BYTES as u64 * u64::from(store.head.trailer);
     let p = u64::from(store.count()) + 1;
     let front = left.min(front_length(&store.head) as u64) as usize;
-    store.hold(window, front, size)?;
+    store.hold(room, window, front, size)?;
     let length = match length_of_next(&store.head, limits, p, window.front(front), left) {
         Ok(length) => length,
         Err(fault) if keeps(reading, fault) => return Ok(None),
         Err(fault) => return Err(fault),
     };
-    store.hold(window, length as usize, size)?;
+    store.hold(room, window, length as usize, size)?;
     Ok(Some(length))
 }
 
 // Reads n bytes on and takes them, a block at a time. Takes memory for a block at most. Refused as
 // `Window::hold`.
 pub fn skip_bytes<T: Copy>(
+    room: &mut Room,
     store: &mut TraceStore<T>,
     window: &mut Window,
     size: u64,
@@ -135,11 +142,12 @@ pub fn skip_bytes<T: Copy>(
         IsNextOf store.new.loaded.bytes (at + n) window.new.bytes) }
     ensures within { length store.new.loaded.bytes ≤ size }
     ensures fault { IfErr result IsFaultOfPass }
+    ensures memory { Rises (IsErrOf result LoadFault.OutOfMemory) room.old room.new }
 {
     let mut left = n;
     'blocks: while left > 0 {
         let block = left.min(LEAST);
-        store.hold(window, block as usize, size)?;
+        store.hold(room, window, block as usize, size)?;
         window.skip(block as usize);
         left -= block;
     }
@@ -149,7 +157,7 @@ pub fn skip_bytes<T: Copy>(
 // Reads the bytes behind the traces, up to the end of the file. Takes memory. Refused as
 // `Window::hold`, and with L01 where the file does not end there.
 pub fn last_bytes<T: Copy>(
-    alloc: Global,
+    room: &mut Room,
     store: &mut TraceStore<T>,
     window: &mut Window,
     size: u64,
@@ -162,14 +170,15 @@ pub fn last_bytes<T: Copy>(
     ensures all { OnOk result (length store.new.loaded.bytes ≡ size) }
     ensures back { IfOk result (λ back. back.items ≡ drop at store.new.loaded.bytes) }
     ensures fault { IfErr result IsFaultOfPass }
+    ensures memory { Rises (IsErrOf result LoadFault.OutOfMemory) room.old room.new }
 {
     let n = (size - at) as usize;
-    store.hold(window, n, size)?;
+    store.hold(room, window, n, size)?;
     match store.is_at_end() {
         Ok(true) => {}
         _ => return Err(LoadFault::ReadFailed),
     }
-    match Vec::from_slice(alloc, window.front(n)) {
+    match room.told(Vec::from_slice(room.alloc(), window.front(n))) {
         Ok(back) => Ok(back),
         Err(_) => Err(LoadFault::OutOfMemory),
     }

@@ -1,5 +1,6 @@
 // A file that is loaded in one pass over it, and stays on disk.
-ghost use Rattle.std.specs.Prelude.{ℕ, ◌≡◌, ◌⊎◌, ◌+◌, ◌<◌, ◌≤◌, List, length, IsFalse, IsTrue, IfErr, IfOk, OnErr, OnOk};
+ghost use Rattle.std.specs.Prelude.{ℕ, ◌≡◌, ◌⊎◌, ◌+◌, ◌<◌, ◌≤◌, List, length, IsFalse, IsTrue, IfErr, IfOk, IsErr, IsErrAnd, IsErrOf, OnErr, OnOk};
+ghost use Rattle.room.specs.Refusals.{Rises};
 ghost use Rattle.frame_cut.specs.Cuts.{IsCut, IsTrace};
 ghost use Rattle.frame_cut.specs.Volume.{bytes_of};
 ghost use Rattle.trace_store.specs.Windows.{IsFaultOfPass};
@@ -11,11 +12,11 @@ use crate::pass_reads::{last_bytes, next_whole, read_front, read_head, skip_byte
 use base_file::Held;
 use edit_overlay::{Overlay, PassFault, array_at};
 use frame_cut::{BINARY_HEADER_BYTES, Extent, Head, Limits, LoadFault, Reading};
-use std::alloc::Global;
+use room::{OutOfMemory, Room};
 use std::fs::File;
 use std::marker::Model;
 use text_block::TEXT_BLOCK_BYTES;
-use trace_store::{Base, OutOfMemory, TraceStore, Window};
+use trace_store::{Base, TraceStore, Window};
 use trace_view::TraceView;
 
 /// A file that is read from its front to its end, once, and stays on disk, whose traces get their
@@ -57,9 +58,10 @@ impl<T: Copy> Model for Passing<T> {
 impl<T: Copy> Passing<T> {
     /// Reads the file headers of a file that has so many bytes, and what stands in front of its
     /// traces. Takes memory. Refused: L01 where a read failed or the file ends before, L02 to L12
-    /// or L17 for the first reason that the bytes give, L16 where no memory was.
+    /// or L17 for the first reason that the bytes give, L16 where a growth was refused in this
+    /// call.
     pub fn begin(
-        alloc: Global,
+        room: &mut Room,
         file: File,
         size: u64,
         reading: Reading,
@@ -67,20 +69,22 @@ impl<T: Copy> Passing<T> {
     ) -> Result<Passing<T>, PassFault>
         ensures begun { IfOk result (IsBegun size reading limits) }
         ensures refused { IfErr result (λ e. IsPassFault size reading limits e.read e.fault) }
+        ensures memory { Rises (IsErrAnd result (λ e. e.fault ≡ LoadFault.OutOfMemory)) room.old
+            room.new }
     {
-        let mut held = Held::on_pass(alloc, file);
-        let mut window = Window::new(alloc);
-        let head = match read_head(&mut held, &mut window, size, reading, limits) {
+        let mut held = Held::on_pass(room.alloc(), file);
+        let mut window = Window::new(room.alloc());
+        let head = match read_head(room, &mut held, &mut window, size, reading, limits) {
             Ok(head) => head,
             Err(fault) => return Err(PassFault::of(fault, held)),
         };
         let n = head.traces_at as usize;
-        let front = match read_front(alloc, &mut held, &mut window, n, size) {
+        let front = match read_front(room, &mut held, &mut window, n, size) {
             Ok(front) => front,
             Err(fault) => return Err(PassFault::of(fault, held)),
         };
         Ok(Passing {
-            store: TraceStore::over(alloc, held, head),
+            store: TraceStore::over(room.alloc(), held, head),
             window,
             front,
             reading,
@@ -103,8 +107,9 @@ impl<T: Copy> Passing<T> {
     /// Reads the next trace, which is shown then, and counts one look; false behind the last one,
     /// or where the reading keeps what is less than a trace, and then no look. Takes memory for a
     /// longer trace than before. Refused: L01 where a read failed or the file ends in it, L13 to
-    /// L15 for the first reason that the bytes give, L16 where no memory was; none is shown then.
-    pub fn next_trace(&mut self) -> Result<bool, LoadFault>
+    /// L15 for the first reason that the bytes give, L16 where a growth was refused in this call;
+    /// none is shown then.
+    pub fn next_trace(&mut self, room: &mut Room) -> Result<bool, LoadFault>
         ensures same { self.new ≡ with_shown self.old self.new.read self.new.shown self.new.tail
             self.new.looks }
         ensures on { HasReadOn self.old.read self.new.read }
@@ -117,6 +122,7 @@ impl<T: Copy> Passing<T> {
         ensures refused { IfErr result
             (IsPassFault self.old.size self.old.reading self.old.limits self.new.read) }
         ensures failed { OnErr result (self.new.looks ≡ self.old.looks) }
+        ensures memory { Rises (IsErrOf result LoadFault.OutOfMemory) room.old room.new }
     {
         self.next = 0;
         self.tail = 0;
@@ -126,6 +132,7 @@ impl<T: Copy> Passing<T> {
             return Ok(false);
         }
         let read = next_whole(
+            room,
             &mut self.store,
             &mut self.window,
             self.reading,
@@ -161,10 +168,11 @@ impl<T: Copy> Passing<T> {
     /// Gives the trace that is shown this payload; then none is shown. Takes memory for its slot
     /// and its place in the order; may be refused for want of it alone, and then nothing is
     /// changed.
-    pub fn push(&mut self, alloc: Global, payload: T) -> Result<(), OutOfMemory>
+    pub fn push(&mut self, room: &mut Room, payload: T) -> Result<(), OutOfMemory>
         requires { 0 < length self.old.shown }
         ensures ok { OnOk result (self.new ≡ with_passed self.old payload) }
         ensures err { OnErr result (self.new ≡ self.old) }
+        ensures memory { Rises (IsErr result) room.old room.new }
     {
         let extent = Extent {
             start: self.at,
@@ -174,7 +182,7 @@ impl<T: Copy> Passing<T> {
         let _most = self.limits.traces();
         let place = self.store.count() + 1;
         self.store
-            .insert(alloc, place, Base::Loaded(extent), payload)?;
+            .insert(room, place, Base::Loaded(extent), payload)?;
         self.window.skip(self.next as usize);
         self.at += self.next;
         self.next = 0;
@@ -192,8 +200,9 @@ impl<T: Copy> Passing<T> {
 
     /// The overlay of the file, once each trace has its payload: the tail and the data trailer
     /// records are read, and that the file ends there. Takes memory for the records. Refused with
-    /// L01 where a read failed, or the file has fewer bytes or more, with L16 where no memory was.
-    pub fn finish(self, alloc: Global) -> Result<Overlay<T>, PassFault>
+    /// L01 where a read failed, or the file has fewer bytes or more, with L16 where a growth was
+    /// refused in this call.
+    pub fn finish(self, room: &mut Room) -> Result<Overlay<T>, PassFault>
         requires { HasAllTraces self }
         ensures cut { IfOk result
             (λ o. IsCut (bytes_of o.volume) self.reading self.limits o.volume) }
@@ -201,15 +210,17 @@ impl<T: Copy> Passing<T> {
         ensures passed { IfOk result (IsPassed self) }
         ensures refused { IfErr result (λ e. IsFaultOfPass e.fault) }
         ensures read { IfErr result (λ e. HasReadOn self.read e.read) }
+        ensures memory { Rises (IsErrAnd result (λ e. e.fault ≡ LoadFault.OutOfMemory)) room.old
+            room.new }
     {
         let mut store = self.store;
         let mut window = self.window;
         let records = self.at + self.tail;
-        match skip_bytes(&mut store, &mut window, self.size, self.tail) {
+        match skip_bytes(room, &mut store, &mut window, self.size, self.tail) {
             Ok(()) => {}
             Err(fault) => return Err(PassFault::of(fault, store.loaded)),
         }
-        let back = match last_bytes(alloc, &mut store, &mut window, self.size, records) {
+        let back = match last_bytes(room, &mut store, &mut window, self.size, records) {
             Ok(back) => back,
             Err(fault) => return Err(PassFault::of(fault, store.loaded)),
         };

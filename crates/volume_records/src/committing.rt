@@ -1,5 +1,6 @@
 // An edit that is prepared, made with the records of its traces and with the reports.
-ghost use Rattle.std.specs.Prelude.{◌≡◌, ◌+◌, ◌-◌, ◌≤◌, OnErr, OnOk, length, map, slice_set};
+ghost use Rattle.std.specs.Prelude.{◌≡◌, ◌+◌, ◌-◌, ◌≤◌, OnErr, OnOk, length, map, slice_set, IsErr};
+ghost use Rattle.room.specs.Refusals.{Rises};
 ghost use Rattle.frame_cut.specs.Traces.{count_of};
 ghost use Rattle.trace_record.specs.Packed.{record_in};
 ghost use Rattle.edit_overlay.specs.CountedVolume.{with_volume};
@@ -7,16 +8,18 @@ ghost use Rattle.live_reports.specs.Exchanged.{with_records};
 ghost use Rattle.live_reports.specs.OfRecords.{AreReportsOf};
 ghost use Rattle.live_reports.specs.Reports.{AreFew};
 
-use crate::{OutOfMemory, set_records};
+use crate::set_records;
 use edit_overlay::Overlay;
 use live_reports::LiveReports;
 use record_table::{RecordList, Records};
+use room::{OutOfMemory, Room};
 use trace_record::{PackedRecord, Record};
 
 /// Makes the edit of trace p, counted from 1, that is prepared, puts this record beside the trace,
 /// and counts it in the reports in the place of the one that stood there; or drops the edit where
 /// memory is refused, and all is as it was. Looks at no trace.
 pub fn commit_with_record(
+    room: &mut Room,
     overlay: &mut Overlay<PackedRecord>,
     reports: &mut LiveReports,
     p: u32,
@@ -38,8 +41,14 @@ pub fn commit_with_record(
     ensures loaded { overlay.new.loaded ≡ overlay.old.loaded }
     ensures agreed { overlay.new.agreed ≡ overlay.old.agreed }
     ensures looks { overlay.new.looks ≡ overlay.old.looks }
+    ensures memory { Rises (IsErr result) room.old room.new }
 {
-    match reports.exchange(&Records::new(overlay.payloads()), p as usize - 1, trace) {
+    match reports.exchange(
+        room,
+        &Records::new(overlay.payloads()),
+        p as usize - 1,
+        trace,
+    ) {
         Ok(()) => {
             overlay.commit_with(p, PackedRecord::of(*trace));
             Ok(())
@@ -53,6 +62,7 @@ pub fn commit_with_record(
 
 /// The same of as many traces as there are records, from trace a on.
 pub fn commit_with_records(
+    room: &mut Room,
     overlay: &mut Overlay<PackedRecord>,
     reports: &mut LiveReports,
     a: u32,
@@ -75,8 +85,14 @@ pub fn commit_with_records(
     ensures loaded { overlay.new.loaded ≡ overlay.old.loaded }
     ensures agreed { overlay.new.agreed ≡ overlay.old.agreed }
     ensures looks { overlay.new.looks ≡ overlay.old.looks }
+    ensures memory { Rises (IsErr result) room.old room.new }
 {
-    match reports.exchange_each(&Records::new(overlay.payloads()), a as usize - 1, records) {
+    match reports.exchange_each(
+        room,
+        &Records::new(overlay.payloads()),
+        a as usize - 1,
+        records,
+    ) {
         Ok(()) => {
             overlay.commit();
             set_records(overlay, a, records);

@@ -14,8 +14,9 @@
 //! its bytes. `laid_headers`, `record_after` and `prepared_records` look at no trace then.
 //!
 //! Traces count from 1. Each call that looks at a trace of the volume says how often; a look
-//! leaves the volume and what is prepared as they are. These alone take memory, and may be refused
-//! for want of it: `with_records`, `remake`, `prepared_records`, `prepared_whole_records`,
+//! leaves the volume and what is prepared as they are. These alone take memory, and may give up for
+//! want of it, only where a growth was refused in that call: `with_records`,
+//! `with_records_on_disk`, `remake`, `prepared_records`, `prepared_whole_records`,
 //! `commit_with_record` and `commit_with_records`. Where the bytes of the volume are on disk a look
 //! may be refused too: `prepared_record`, `prepared_headers`, `laid_headers` and `record_after`
 //! tell the `ReadFault`, `remake`, `prepared_records` and `prepared_whole_records` a
@@ -31,7 +32,6 @@ mod of_pass;
 mod of_trace;
 mod of_traces;
 mod of_volume;
-mod out_of_memory;
 mod records_fault;
 mod remaking;
 
@@ -42,6 +42,6 @@ pub use crate::of_trace::{
 };
 pub use crate::of_traces::{prepared_records, prepared_whole_records};
 pub use crate::of_volume::with_records;
-pub use crate::out_of_memory::OutOfMemory;
 pub use crate::records_fault::RecordsFault;
 pub use crate::remaking::{remake, set_records};
+pub use room::OutOfMemory;

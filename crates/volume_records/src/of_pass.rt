@@ -1,4 +1,5 @@
-ghost use Rattle.std.specs.Prelude.{◌≡◌, ◌+◌, ◌<◌, true, [], IfErr, IfOk, IsTrue, OnErr, OnOk, length, map};
+ghost use Rattle.std.specs.Prelude.{◌≡◌, ◌+◌, ◌<◌, true, [], IfErr, IfOk, IsTrue, OnErr, OnOk, length, map, IsErrAnd, IsErrOf};
+ghost use Rattle.room.specs.Refusals.{Rises};
 ghost use Rattle.frame_cut.specs.Cuts.{IsCut};
 ghost use Rattle.frame_cut.specs.Traces.{count_of};
 ghost use Rattle.frame_cut.specs.Volume.{bytes_of};
@@ -16,7 +17,7 @@ use field_map::FieldMap;
 use frame_cut::LoadFault;
 use live_reports::LiveReports;
 use record_table::Records;
-use std::alloc::Global;
+use room::Room;
 use trace_record::{PackedRecord, Record, record_of};
 use volume_loading::Passing;
 
@@ -25,9 +26,9 @@ use volume_loading::Passing;
 /// then, and the reports have counted them. One look at each trace. Takes memory for the table of
 /// the traces, for the longest of them, and for what the reports hold. Refused: L01 where a read
 /// failed, or the file has fewer bytes or more, L13 to L15 for the first reason that the bytes
-/// give, L16 where no memory was.
+/// give, L16 where a growth was refused in this call.
 pub fn with_records_on_disk(
-    alloc: Global,
+    room: &mut Room,
     passing: Passing<PackedRecord>,
     fields: &FieldMap,
 ) -> Result<(Overlay<PackedRecord>, LiveReports), PassFault>
@@ -50,19 +51,21 @@ pub fn with_records_on_disk(
     ensures refused { IfErr result
         (λ e. IsPassFault passing.size passing.reading passing.limits e.read e.fault) }
     ensures read { IfErr result (λ e. HasReadOn passing.read e.read) }
+    ensures memory { Rises (IsErrAnd result (λ e. e.fault ≡
+        LoadFault.OutOfMemory)) room.old room.new }
 {
     let mut passing = passing;
-    match pass_records(alloc, &mut passing, fields) {
+    match pass_records(room, &mut passing, fields) {
         Ok(()) => {}
         Err(fault) => return Err(passing.refuse(fault)),
     }
-    let overlay = match passing.finish(alloc) {
+    let overlay = match passing.finish(room) {
         Ok(overlay) => overlay,
         Err(fault) => return Err(fault),
     };
     // Read for the proof alone, which learns that the traces can be counted in 32 bits.
     let _count = overlay.count();
-    match LiveReports::from_records(alloc, &Records::new(overlay.payloads())) {
+    match LiveReports::from_records(room, &Records::new(overlay.payloads())) {
         Ok(reports) => Ok((overlay, reports)),
         Err(_refused) => Err(overlay.refuse(LoadFault::OutOfMemory)),
     }
@@ -70,7 +73,7 @@ pub fn with_records_on_disk(
 
 // Passes each trace, and gives it its record.
 fn pass_records(
-    alloc: Global,
+    room: &mut Room,
     passing: &mut Passing<PackedRecord>,
     fields: &FieldMap,
 ) -> Result<(), LoadFault>
@@ -85,17 +88,18 @@ fn pass_records(
         (RisesAtMost passing.old.looks passing.new.looks (length passing.new.traces)) }
     ensures refused { IfErr result
         (IsPassFault passing.old.size passing.old.reading passing.old.limits passing.new.read) }
+    ensures memory { Rises (IsErrOf result LoadFault.OutOfMemory) room.old room.new }
 {
     'turns: loop {
-        match passing.next_trace() {
+        match passing.next_trace(room) {
             Ok(true) => {}
             Ok(false) => return Ok(()),
             Err(fault) => return Err(fault),
         }
         let record = passed_record(passing, fields);
-        if passing.push(alloc, PackedRecord::of(record)).is_err() {
+        let Ok(()) = passing.push(room, PackedRecord::of(record)) else {
             return Err(LoadFault::OutOfMemory);
-        }
+        };
     }
 }
 

@@ -1,4 +1,5 @@
-ghost use Rattle.std.specs.Prelude.{◌≡◌, ◌+◌, ◌-◌, ◌/◌, ◌%◌, ◌<◌, ◌≤◌, ℕ, IfOk, IfErr, IsTrue, get_or, length, map, take, drop};
+ghost use Rattle.std.specs.Prelude.{◌≡◌, ◌+◌, ◌-◌, ◌/◌, ◌%◌, ◌<◌, ◌≤◌, ℕ, IfOk, IfErr, IsTrue, get_or, length, map, take, drop, IsErrOf};
+ghost use Rattle.room.specs.Refusals.{Rises};
 ghost use Rattle.frame_cut.specs.Traces.{count_of, trace_at};
 ghost use Rattle.trace_record.specs.Facts.{facts_of};
 ghost use Rattle.trace_record.specs.Packed.{record_in};
@@ -13,7 +14,7 @@ use crate::of_trace::{laid_headers, prepared_record};
 use edit_overlay::Overlay;
 use field_map::FieldMap;
 use record_table::RecordList;
-use std::alloc::Global;
+use room::Room;
 use trace_record::PackedRecord;
 use trace_store::part;
 
@@ -29,7 +30,7 @@ use trace_store::part;
 /// want of it, or on disk where a trace that is looked at could not be read, and the volume and
 /// what is prepared stay as they are in any case.
 pub fn prepared_records(
-    alloc: Global,
+    room: &mut Room,
     overlay: &mut Overlay<PackedRecord>,
     fields: &FieldMap,
     a: u32,
@@ -58,15 +59,16 @@ pub fn prepared_records(
     ensures told { IsTrue (tells_record fields.now.pairs at size) →
         (overlay.new ≡ overlay.old) × IfErr result (λ fault. IsOfRead fault → ⊥) }
     ensures read { IfErr result (λ fault. IsOfRead fault → IsTrue overlay.old.loaded.on_disk) }
+    ensures memory { Rises (IsErrOf result RecordsFault.OutOfMemory) room.old room.new }
 {
     // Read for the proof alone, which learns that the traces are counted in 32 bits.
     let _count = overlay.count();
-    let mut records = RecordList::with_capacity(alloc, count as usize)?;
+    let mut records = RecordList::with_capacity(room, count as usize)?;
     for k in 0..count {
         let known = overlay.payload(a + k).record();
         let part = part(bytes, size, k as usize);
         let record = laid_headers(overlay, fields, a + k, &known, at, part)?;
-        records.push(&record)?;
+        records.push(room, &record)?;
     }
     Ok(records)
 }
@@ -76,7 +78,7 @@ pub fn prepared_records(
 /// for the records; refused for want of it, or on disk where a trace could not be read, and the
 /// volume and what is prepared stay as they are in any case.
 pub fn prepared_whole_records(
-    alloc: Global,
+    room: &mut Room,
     overlay: &mut Overlay<PackedRecord>,
     fields: &FieldMap,
     a: u32,
@@ -95,13 +97,14 @@ pub fn prepared_whole_records(
         length (trace_at overlay.old.prepared (a + k))) }
     ensures seen { IsSeen overlay.old overlay.new count }
     ensures read { IfErr result (λ fault. IsOfRead fault → IsTrue overlay.old.loaded.on_disk) }
+    ensures memory { Rises (IsErrOf result RecordsFault.OutOfMemory) room.old room.new }
 {
     // Read for the proof alone, which learns that the traces are counted in 32 bits.
     let _count = overlay.count();
-    let mut records = RecordList::with_capacity(alloc, count as usize)?;
+    let mut records = RecordList::with_capacity(room, count as usize)?;
     for k in 0..count {
         let record = prepared_record(overlay, fields, a + k)?;
-        records.push(&record)?;
+        records.push(room, &record)?;
     }
     Ok(records)
 }

@@ -1,4 +1,5 @@
-ghost use Rattle.std.specs.Prelude.{◌≡◌, ◌<◌, ◌+◌, ◌^◌, [], IfOk, OnOk, length, map};
+ghost use Rattle.std.specs.Prelude.{◌≡◌, ◌<◌, ◌+◌, ◌^◌, [], IfOk, OnOk, length, map, IsErr};
+ghost use Rattle.room.specs.Refusals.{Rises};
 ghost use Rattle.frame_cut.specs.Traces.{count_of, trace_at};
 ghost use Rattle.frame_cut.specs.Volume.{bytes_of};
 ghost use Rattle.trace_record.specs.Facts.{facts_of};
@@ -9,12 +10,11 @@ ghost use Rattle.volume_loading.specs.LoadedVolume.{with_next_look};
 ghost use Rattle.live_reports.specs.OfRecords.{AreReportsOf};
 ghost use Rattle.volume_records.specs.OfVolume.{IsOfFile, records_of};
 
-use crate::OutOfMemory;
 use edit_overlay::Overlay;
 use field_map::FieldMap;
 use live_reports::LiveReports;
 use record_table::Records;
-use std::alloc::Global;
+use room::{OutOfMemory, Room};
 use trace_record::{PackedRecord, Record, record_of};
 use volume_loading::Loading;
 
@@ -23,7 +23,7 @@ use volume_loading::Loading;
 /// counted them. One look at each trace. Takes memory for the order of the traces and for what the
 /// reports hold; refused for want of it alone.
 pub fn with_records(
-    alloc: Global,
+    room: &mut Room,
     loading: Loading<PackedRecord>,
     fields: &FieldMap,
 ) -> Result<(Overlay<PackedRecord>, LiveReports), OutOfMemory>
@@ -40,9 +40,10 @@ pub fn with_records(
         (λ r. RisesAtMost loading.looks r.0.looks (count_of loading.volume)) }
     ensures standing { IfOk result (λ r. (r.0.loaded ≡ loading.loaded) ×
         (r.0.agreed ≡ loading.agreed)) }
+    ensures memory { Rises (IsErr result) room.old room.new }
 {
     let mut loading = loading;
-    match push_records(alloc, &mut loading, fields) {
+    match push_records(room, &mut loading, fields) {
         Ok(()) => {}
         Err(refused) => {
             loading.close();
@@ -50,7 +51,7 @@ pub fn with_records(
         }
     }
     let overlay = loading.finish();
-    match LiveReports::from_records(alloc, &Records::new(overlay.payloads())) {
+    match LiveReports::from_records(room, &Records::new(overlay.payloads())) {
         Ok(reports) => Ok((overlay, reports)),
         Err(_refused) => {
             overlay.close();
@@ -61,7 +62,7 @@ pub fn with_records(
 
 // Gives each trace its record.
 fn push_records(
-    alloc: Global,
+    room: &mut Room,
     loading: &mut Loading<PackedRecord>,
     fields: &FieldMap,
 ) -> Result<(), OutOfMemory>
@@ -74,10 +75,11 @@ fn push_records(
     ensures looks { RisesAtMost loading.old.looks loading.new.looks (count_of loading.old.volume) }
     ensures loaded { loading.new.loaded ≡ loading.old.loaded }
     ensures agreed { loading.new.agreed ≡ loading.old.agreed }
+    ensures memory { Rises (IsErr result) room.old room.new }
 {
     for _k in 0..loading.count() {
         let record = next_record(loading, fields);
-        loading.push(alloc, PackedRecord::of(record))?;
+        loading.push(room, PackedRecord::of(record))?;
     }
     Ok(())
 }

@@ -1,5 +1,5 @@
-use crate::OutOfMemory;
 use edit_overlay::ReadFault;
+use room::OutOfMemory;
 use thiserror::Error;
 
 /// Why records were not made.
@@ -32,27 +32,5 @@ impl From<ReadFault> for RecordsFault {
 
     fn from(read: ReadFault) -> RecordsFault {
         RecordsFault::Read(read)
-    }
-}
-
-impl From<record_table::OutOfMemory> for RecordsFault {
-    ghost use Rattle.std.specs.Prelude.{◌≡◌};
-    ghost use Rattle.volume_records.specs.declared.records_fault.RecordsFault.TheVariants.{OutOfMemory as no_memory};
-
-    ghost from_gives = { λ _ fault. fault ≡ no_memory };
-
-    fn from(_: record_table::OutOfMemory) -> RecordsFault {
-        RecordsFault::OutOfMemory
-    }
-}
-
-impl From<live_reports::OutOfMemory> for RecordsFault {
-    ghost use Rattle.std.specs.Prelude.{◌≡◌};
-    ghost use Rattle.volume_records.specs.declared.records_fault.RecordsFault.TheVariants.{OutOfMemory as no_memory};
-
-    ghost from_gives = { λ _ fault. fault ≡ no_memory };
-
-    fn from(_: live_reports::OutOfMemory) -> RecordsFault {
-        RecordsFault::OutOfMemory
     }
 }

@@ -1,5 +1,6 @@
 // Other records beside the traces of a volume.
-ghost use Rattle.std.specs.Prelude.{◌≡◌, ◌+◌, ◌-◌, ◌^◌, ◌<◌, ◌≤◌, ℕ, [], IfOk, IfErr, OnOk, OnErr, IsTrue, length, map, slice_index_or};
+ghost use Rattle.std.specs.Prelude.{◌≡◌, ◌+◌, ◌-◌, ◌^◌, ◌<◌, ◌≤◌, ℕ, [], IfOk, IfErr, OnOk, OnErr, IsTrue, length, map, slice_index_or, IsErr, IsErrOf};
+ghost use Rattle.room.specs.Refusals.{Rises};
 ghost use Rattle.frame_cut.specs.Traces.{count_of, is_trace, trace_at};
 ghost use Rattle.frame_cut.specs.Volume.{bytes_of};
 ghost use Rattle.trace_record.specs.Facts.{facts_of};
@@ -11,12 +12,12 @@ ghost use Rattle.live_reports.specs.OfRecords.{AreReportsOf};
 ghost use Rattle.volume_records.specs.Faults.{IsOfRead};
 ghost use Rattle.volume_records.specs.OfVolume.{numbers_of, records_of};
 
-use crate::{OutOfMemory, RecordsFault};
+use crate::RecordsFault;
 use edit_overlay::{Overlay, ReadFault};
 use field_map::FieldMap;
 use live_reports::LiveReports;
 use record_table::{RecordList, Records};
-use std::alloc::Global;
+use room::{OutOfMemory, Room};
 use trace_record::{PackedRecord, Record, record_of};
 
 /// Puts the records beside the traces from trace a on, which counts from 1, in place of those that
@@ -50,7 +51,7 @@ pub fn set_records(overlay: &mut Overlay<PackedRecord>, a: u32, records: &Record
 /// not be read, and then the records are as they were. The volume stays as
 /// it is in any case.
 pub fn remake(
-    alloc: Global,
+    room: &mut Room,
     overlay: &mut Overlay<PackedRecord>,
     fields: &FieldMap,
 ) -> Result<LiveReports, RecordsFault>
@@ -75,9 +76,10 @@ pub fn remake(
     ensures loaded { overlay.new.loaded ≡ overlay.old.loaded }
     ensures looks { RisesAtMost overlay.old.looks overlay.new.looks (count_of overlay.old.volume) }
     ensures agreed { IsTrue overlay.new.agreed → IsTrue overlay.old.agreed }
+    ensures memory { Rises (IsErrOf result RecordsFault.OutOfMemory) room.old room.new }
 {
-    let held = copied(alloc, overlay)?;
-    match remade(alloc, overlay, fields) {
+    let held = copied(room, overlay)?;
+    match remade(room, overlay, fields) {
         Ok(reports) => Ok(reports),
         Err(fault) => {
             set_records(overlay, 1, &held);
@@ -88,7 +90,7 @@ pub fn remake(
 
 // Makes the records anew, and the reports of them.
 fn remade(
-    alloc: Global,
+    room: &mut Room,
     overlay: &mut Overlay<PackedRecord>,
     fields: &FieldMap,
 ) -> Result<LiveReports, RecordsFault>
@@ -111,18 +113,20 @@ fn remade(
     ensures loaded { overlay.new.loaded ≡ overlay.old.loaded }
     ensures looks { RisesAtMost overlay.old.looks overlay.new.looks (count_of overlay.old.volume) }
     ensures agreed { IsTrue overlay.new.agreed → IsTrue overlay.old.agreed }
+    ensures memory { Rises (IsErrOf result RecordsFault.OutOfMemory) room.old room.new }
 {
     renew(overlay, fields)?;
-    Ok(LiveReports::from_records(alloc, &Records::new(overlay.payloads()))?)
+    Ok(LiveReports::from_records(room, &Records::new(overlay.payloads()))?)
 }
 
 // A copy of all records.
-fn copied(alloc: Global, overlay: &Overlay<PackedRecord>) -> Result<RecordList, OutOfMemory>
-    ensures { IfOk result (λ list. list ≡ map record_in overlay.now.payloads) }
+fn copied(room: &mut Room, overlay: &Overlay<PackedRecord>) -> Result<RecordList, OutOfMemory>
+    ensures records { IfOk result (λ list. list ≡ map record_in overlay.now.payloads) }
+    ensures memory { Rises (IsErr result) room.old room.new }
 {
-    let mut records = RecordList::with_capacity(alloc, overlay.count() as usize)?;
+    let mut records = RecordList::with_capacity(room, overlay.count() as usize)?;
     for packed in overlay.payloads().iter() {
-        records.push(&packed.record())?;
+        records.push(room, &packed.record())?;
     }
     Ok(records)
 }

@@ -1,9 +1,11 @@
-ghost use Rattle.std.specs.Prelude.{◌≡◌, ◌+◌, ◌*◌, ◌<◌, length};
+ghost use Rattle.std.specs.Prelude.{◌≡◌, ◌+◌, ◌*◌, ◌<◌, length, IsErr};
+ghost use Rattle.room.specs.Refusals.{Rises};
 ghost use Rattle.window_counts.specs.Places.{numbers_in, place_below, offset_at as offset_of};
 
 use crate::rectangle::{Rectangle, RectangleExtent};
 use crate::window::{Extent, Window};
-use std::alloc::{AllocError, Global};
+use room::{OutOfMemory, Room};
+use std::alloc::Global;
 
 /// The cells of a rectangle, each at one offset and with a place, row by row. Either all are at the
 /// same offset, or each is at its own, which takes 4 bytes a cell; a row that is added has the
@@ -21,15 +23,17 @@ impl OffsetRectangle {
     /// last, and before that the usual one. Takes memory for the offsets; refused for want of it
     /// alone. Which places there are costs time and memory, and changes no number.
     pub fn by_cell(
-        alloc: Global,
+        room: &mut Room,
         extent: &OffsetExtent,
         keys: usize,
-    ) -> Result<OffsetRectangle, AllocError> {
+    ) -> Result<OffsetRectangle, OutOfMemory>
+        ensures memory { Rises (IsErr result) room.old room.new }
+    {
         let cells = Rectangle::over(&extent.cells, keys);
         if cells.len() < keys / 2 {
             return Ok(OffsetRectangle::none());
         }
-        let own = vec![in alloc; extent.offset; cells.len()]?;
+        let own = room.told(vec![in room.alloc(); extent.offset; cells.len()])?;
         Ok(OffsetRectangle {
             cells,
             offset: extent.offset,

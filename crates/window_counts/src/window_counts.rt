@@ -1,4 +1,5 @@
-ghost use Rattle.std.specs.Prelude.{◌≡◌, ◌+◌, ◌^◌, ◌<◌, [], map, OnOk, OnErr, IsOk, IfOk};
+ghost use Rattle.std.specs.Prelude.{◌≡◌, ◌+◌, ◌^◌, ◌<◌, [], map, OnOk, OnErr, IsOk, IfOk, IsErr, ◌≤◌};
+ghost use Rattle.room.specs.Refusals.{Rises};
 ghost use Rattle.key_counts.specs.Counts.{count_of, HasOneMore};
 ghost use Rattle.key_counts.specs.Ends.{IsLeast, IsGreatest, IsSpan};
 ghost use Rattle.key_counts.specs.Rising.{Shows, times_in};
@@ -9,7 +10,8 @@ use crate::offset_rectangle::OffsetRectangle;
 use crate::rectangle::Rectangle;
 use crate::slots::Slots;
 use crate::window::{Extent, Window};
-use key_counts::{Counter, Counts, FromCount, OutOfMemory};
+use key_counts::{Counter, Counts, FromCount};
+use room::{OutOfMemory, Room};
 use std::alloc::Global;
 use std::marker::Model;
 
@@ -55,28 +57,30 @@ impl<K: Copy + Ord, W: Window<K>> WindowCounts<K, W> {
     }
 
     /// No key, and this window. Takes memory for the window.
-    pub fn within(alloc: Global, mut window: W) -> Result<WindowCounts<K, W>, OutOfMemory>
-        ensures { IfOk result (λ v. v ≡ []) }
+    pub fn within(room: &mut Room, mut window: W) -> Result<WindowCounts<K, W>, OutOfMemory>
+        ensures none { IfOk result (λ v. v ≡ []) }
+        ensures memory { Rises (IsErr result) room.old room.new }
     {
-        window.prepare(alloc);
-        let slots = Slots::new(alloc, window.len())?;
+        window.prepare(room.alloc());
+        let slots = Slots::new(room, window.len())?;
         Ok(WindowCounts {
             window,
             slots,
-            outside: Counts::new(alloc),
+            outside: Counts::new(room.alloc()),
         })
     }
 
     // Adds a row of places for a key above all others, where the window can grow so, the row that
     // was added last is in use, and no key is outside, where it might lie in the new row. Where
     // memory is refused, the key stays outside.
-    fn make_room(&mut self, key: K)
-        ensures { self.new ≡ self.old }
+    fn make_room(&mut self, room: &mut Room, key: K)
+        ensures same { self.new ≡ self.old }
+        ensures memory { room.old ≤ room.new }
     {
         if self.window.can_grow(key)
             && self.outside.is_empty()
             && self.is_in_use()
-            && self.slots.grow(self.window.row_len()).is_ok()
+            && self.slots.grow(room, self.window.row_len()).is_ok()
         {
             self.window.grow(key);
         }
@@ -92,40 +96,43 @@ impl<K: Copy + Ord, W: Window<K>> WindowCounts<K, W> {
     /// How often each of these keys occurs among them. A window has a place for each where they lie
     /// densely. Takes memory for the window, or for the counts in order that stand in its place;
     /// refused for want of it alone.
-    pub fn from_keys(alloc: Global, keys: Vec<K>) -> Result<WindowCounts<K, W>, OutOfMemory>
-        ensures { IfOk result (λ v. (q : K) →
+    pub fn from_keys(room: &mut Room, keys: Vec<K>) -> Result<WindowCounts<K, W>, OutOfMemory>
+        ensures numbers { IfOk result (λ v. (q : K) →
             count_of K.cmp v q ≡ times_in K.cmp keys.items q) }
+        ensures memory { Rises (IsErr result) room.old room.new }
     {
         let window = W::over(&extent_of::<K, W::Extent>(&keys), keys.len());
         if window.len() == 0 {
-            return WindowCounts::in_order(alloc, keys);
+            return WindowCounts::in_order(room, keys);
         }
-        let mut counts = WindowCounts::within(alloc, window)?;
-        counts.raise_each(&keys)?;
+        let mut counts = WindowCounts::within(room, window)?;
+        counts.raise_each(room, &keys)?;
         Ok(counts)
     }
 
     // The same with no window.
-    fn in_order(alloc: Global, keys: Vec<K>) -> Result<WindowCounts<K, W>, OutOfMemory>
-        ensures { IfOk result (λ v. (q : K) →
+    fn in_order(room: &mut Room, keys: Vec<K>) -> Result<WindowCounts<K, W>, OutOfMemory>
+        ensures numbers { IfOk result (λ v. (q : K) →
             count_of K.cmp v q ≡ times_in K.cmp keys.items q) }
+        ensures memory { Rises (IsErr result) room.old room.new }
     {
-        let outside = Counts::from_keys(alloc, keys)?;
+        let outside = Counts::from_keys(room, keys)?;
         Ok(WindowCounts {
             window: W::none(),
-            slots: Slots::empty(alloc),
+            slots: Slots::empty(room.alloc()),
             outside,
         })
     }
 
     // Raises the keys where nothing is counted.
-    fn raise_each(&mut self, keys: &[K]) -> Result<(), OutOfMemory>
+    fn raise_each(&mut self, room: &mut Room, keys: &[K]) -> Result<(), OutOfMemory>
         requires { self.old ≡ [] }
-        ensures { OnOk result ((q : K) →
+        ensures numbers { OnOk result ((q : K) →
             count_of K.cmp self.new q ≡ times_in K.cmp keys.now q) }
+        ensures memory { Rises (IsErr result) room.old room.new }
     {
         for key in keys {
-            self.raise(*key)?;
+            self.raise(room, *key)?;
         }
         Ok(())
     }
@@ -149,19 +156,20 @@ impl<K: Copy + Ord, W: Window<K>> WindowCounts<K, W> {
     /// leaves all as it was where the growth is refused. For a key above a rectangle it may take
     /// memory for a row of places, or for as many as there are; where that is refused, the key is
     /// counted outside.
-    pub fn raise(&mut self, key: K) -> Result<(), OutOfMemory>
+    pub fn raise(&mut self, room: &mut Room, key: K) -> Result<(), OutOfMemory>
         requires { count_of K.cmp self.old key + 1 < 2 ^ 64 }
         ensures ok { OnOk result (HasOneMore K.cmp self.old self.new key) }
         ensures err { OnErr result (self.new ≡ self.old) }
         ensures held { 0 < count_of K.cmp self.old key → IsOk result }
+        ensures memory { Rises (IsErr result) room.old room.new }
     {
-        self.make_room(key);
+        self.make_room(room, key);
         match self.window.place_of(key) {
             Some(place) => {
                 self.slots.raise(place);
                 Ok(())
             }
-            None => self.outside.raise(key),
+            None => self.outside.raise(room, key),
         }
     }
 
@@ -215,16 +223,17 @@ impl<K: Copy + Ord, W: Window<K>> WindowCounts<K, W> {
 
     /// The keys with their numbers as a list, rising. Takes memory for the list and, where keys are
     /// counted outside the window, for those within and those outside.
-    pub fn list<T: FromCount<K>>(&self, alloc: Global) -> Result<Vec<T>, OutOfMemory>
-        ensures { IfOk result (λ list. Shows K.cmp (count_of K.cmp self.now)
+    pub fn list<T: FromCount<K>>(&self, room: &mut Room) -> Result<Vec<T>, OutOfMemory>
+        ensures shows { IfOk result (λ list. Shows K.cmp (count_of K.cmp self.now)
             (map T.count list.items)) }
+        ensures memory { Rises (IsErr result) room.old room.new }
     {
         if self.outside.is_empty() {
-            return listed(alloc, &self.window, &self.slots);
+            return listed(room, &self.window, &self.slots);
         }
-        let inside = listed::<K, W, (K, u64)>(alloc, &self.window, &self.slots)?;
-        let outside = self.outside.list::<(K, u64)>(alloc)?;
-        merged(alloc, &inside, &outside)
+        let inside = listed::<K, W, (K, u64)>(room, &self.window, &self.slots)?;
+        let outside = self.outside.list::<(K, u64)>(room)?;
+        merged(room, &inside, &outside)
     }
 }
 
@@ -237,8 +246,8 @@ impl<K: Copy + Ord, W: Window<K>> Counter<K> for WindowCounts<K, W> {
 
     ghost number = { λ es. count_of K.cmp es };
 
-    fn raise(&mut self, key: K) -> Result<(), OutOfMemory> {
-        WindowCounts::raise(self, key)
+    fn raise(&mut self, room: &mut Room, key: K) -> Result<(), OutOfMemory> {
+        WindowCounts::raise(self, room, key)
     }
 
     fn lower(&mut self, key: K) {

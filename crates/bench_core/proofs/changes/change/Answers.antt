@@ -1,4 +1,4 @@
-use Rattle.bench_core.proofs.ChangeLemmas.{none_told, on_err, refused_too}
+use Rattle.bench_core.proofs.ChangeLemmas.{none_told, on_err, refused_too, rises_too}
 use Rattle.bench_core.proofs.changes.change.Goals as goal
 
 pub returns-in_err-apply-in_default : goal.returns-in_err-apply-in_default
@@ -12,4 +12,5 @@ returns-in_err-apply-in_default c = record {
   looks = c.in_err-apply-in_default.ensures.looks;
   moved = none_told _ _ c.from_residual-in_err-apply-in_default.result c.from_residual-in_err-apply-in_default.ensures.1;
   told = none_told _ _ c.from_residual-in_err-apply-in_default.result c.from_residual-in_err-apply-in_default.ensures.1;
+  memory = rises_too _ c.from_residual-in_err-apply-in_default.result _ _ c.from_residual-in_err-apply-in_default.ensures.1 c.in_err-apply-in_default.ensures.memory;
 }

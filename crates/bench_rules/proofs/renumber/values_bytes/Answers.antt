@@ -54,7 +54,9 @@ loop-k-preserved c =
     let same = value_is c.args.first c.args.step c.in-Some.value c.loop-k.k first step c.in-Some.ensures.0 c.in-Some.ensures.1 in
     let a = to_z-of_z w128 c.args.first first in
     let b = to_z-of_z w128 c.args.step step in
-    let kept : c.loop-k.bytes.items ≡ values_bytes c.args.order c.args.kind c.args.first c.args.step c.loop-k.k = rw (a, b) at c.loop-k.invariant in
-    rw (a, b)
-    (one_more_value c.args.order c.args.kind c.args.first c.args.step c.loop-k.k c.loop-k.bytes.items c.write.new.bytes c.extend_from_slice.new.self.items kept
-    (c.write.ensures ∙ ap (bytes c.args.order c.args.kind) same) c.in_ok-extend_from_slice.ensures.items)
+    let kept : c.loop-k.bytes.items ≡ values_bytes c.args.order c.args.kind c.args.first c.args.step c.loop-k.k = rw (a, b) at c.loop-k.invariant.0 in (
+      rw (a, b)
+          (one_more_value c.args.order c.args.kind c.args.first c.args.step c.loop-k.k c.loop-k.bytes.items c.write.new.bytes c.extend_from_slice.new.self.items kept
+          (c.write.ensures ∙ ap (bytes c.args.order c.args.kind) same) (rw c.in_ok-told.ensures.ok at c.extend_from_slice.ensures.items)),
+      grind arith,
+    )

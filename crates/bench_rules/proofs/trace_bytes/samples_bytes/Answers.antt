@@ -1,4 +1,4 @@
-use Rattle.std.proofs.Common.{◌∙◌, ap, get_or, pos, rules}
+use Rattle.std.proofs.Common.{◌∙◌, ap, arith, get_or, pos, rules}
 use Rattle.std.proofs.lemmas.Int.{to_z-of_z}
 use Rattle.std.specs.Int.{w128}
 use mir.Val.{SFits}
@@ -13,6 +13,8 @@ encode-requires-clause-fits c =
 
 pub loop-value-preserved : goal.loop-value-preserved
 loop-value-preserved c =
-    let fit : SFits w128 (get_or c.args.values.now c.loop-value.value-index (pos 0)) = search rules in
-    one_more_value c.args.order c.args.format c.args.values.now c.loop-value.value-index _ c.loop-value.bytes.items c.encode.new.bytes _ c.loop-value-test.true
-    (to_z-of_z w128 _ fit) c.loop-value.invariant c.encode.ensures c.in_ok-extend_from_slice.ensures.items
+    let fit : SFits w128 (get_or c.args.values.now c.loop-value.value-index (pos 0)) = search rules in (
+      one_more_value c.args.order c.args.format c.args.values.now c.loop-value.value-index _ c.loop-value.bytes.items c.encode.new.bytes _ c.loop-value-test.true
+          (to_z-of_z w128 _ fit) c.loop-value.invariant.0 c.encode.ensures (rw c.in_ok-told.ensures.ok at c.extend_from_slice.ensures.items),
+      grind arith,
+    )

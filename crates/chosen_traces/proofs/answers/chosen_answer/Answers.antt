@@ -3,6 +3,7 @@ use Rattle.edit_overlay.specs.CountedVolume.{RisesAtMost}
 use Rattle.edit_overlay.specs.Loaded.{Loaded}
 use Rattle.bench_rules.specs.Looks.{asking_looks, choosing_looks}
 use Rattle.chosen_traces.proofs.RecordLemmas.{records_beside}
+use Rattle.chosen_traces.proofs.RangeLemmas.{range_rises}
 use Rattle.chosen_traces.proofs.ToldLemmas.{choice_told, each_told_after, looks_chosen}
 use Rattle.chosen_traces.proofs.answers.chosen_answer.Goals as goal
 
@@ -31,3 +32,6 @@ returns-clause-looks c = λ sure beside.
     let each : RisesAtMost c.choose.new.overlay.looks c.told.new.overlay.looks (asking_looks c.args.query.now (length c.in-Ok.traces.items)) = c.told.ensures.seen.looks in
     let looks = looks_chosen v c.args.map.now.pairs c.args.chosen.now c.args.query.now c.in-Ok.traces.items (c.in-Ok.ensures.ok (c.told.ensures.seen.agreed sure) beside) in
     (omega (arith, choice, each), omega (arith, choice, each, looks))
+
+pub returns-in-Some-clause-memory : goal.returns-in-Some-clause-memory
+returns-in-Some-clause-memory c = range_rises c.args.overlay.now.volume c.args.chosen.now.traces c.in-Some.fault _ c.in-Some.ensures.told

@@ -21,7 +21,7 @@ returns-in_default-clause-rising c = all_rising c.args.a c.args.b c.loop-k.k c.l
 pub loop-k-preserved : goal.loop-k-preserved
 loop-k-preserved c =
     let i = c.loop-k.invariant in
-    let kept = c.in_ok-keep.ensures in
+    let kept = c.in_ok-keep.ensures.traces in
     let place : ℕ = c.args.a - 1 + c.loop-k.k in
     let all : c.new-records.result ≡ map record_in c.args.overlay.now.payloads = c.new-records.ensures ∙ ap (λ (ps : List PackedRecord). map record_in ps) c.payloads.ensures in
     let here : slice_get (map record_in c.args.overlay.now.payloads) place ≡ Some c.in-Some.record = ap (λ (rs : List Record). slice_get rs place) (sym all) ∙ sym c.record_at.ensures.record ∙ c.in-Some.is in
@@ -34,4 +34,5 @@ loop-k-preserved c =
       rising = still_rise c.args.a c.loop-k.k c.hold.result c.loop-k.traces.items c.keep.new.traces.items c.requires.first kept i.rising;
       left = λ walks.
           c.record_at.ensures.left walks ∙ ap (λ (rs : List Record). drop (place + 1) rs) all ∙ ap (λ (n : ℕ). drop n (map record_in c.args.overlay.now.payloads)) behind;
+      memory = grind arith;
     }

@@ -6,20 +6,20 @@ use Rattle.chosen_traces.proofs.choosing.choose.Goals as goal
 pub returns-then-len-eq0-clause-ok : goal.returns-then-len-eq0-clause-ok
 returns-then-len-eq0-clause-ok c = λ sure beside.
     chosen_all c.args.overlay.now.volume c.args.map.now.pairs c.args.chosen.now c.as_slice.result.now c.in_ok-tests.tests.items (c.in-Some.first, c.in-Some.last)
-    c.as_slice.ensures c.in_ok-tests.ensures.ok c.in-Some.is c.in_ok-all.field-0.items (search rules) c.in_ok-all.ensures
+    c.as_slice.ensures c.in_ok-tests.ensures.ok c.in-Some.is c.in_ok-all.field-0.items (search rules) c.in_ok-all.ensures.traces
 
 pub returns-then-len-eq0-clause-rising : goal.returns-then-len-eq0-clause-rising
 returns-then-len-eq0-clause-rising c =
     let v = c.args.overlay.now.volume in
     let r : ℕ × ℕ = (c.in-Some.first, c.in-Some.last) in
-    rise_within v r c.in_ok-all.field-0.items (range_free v c.args.chosen.now.traces r c.in-Some.is c.requires) (subst (λ (ps : List ℕ). AreRising r.0 r.1 ps) (sym c.in_ok-all.ensures) (all_rise v r (range_free v c.args.chosen.now.traces r c.in-Some.is c.requires)))
+    rise_within v r c.in_ok-all.field-0.items (range_free v c.args.chosen.now.traces r c.in-Some.is c.requires) (subst (λ (ps : List ℕ). AreRising r.0 r.1 ps) (sym c.in_ok-all.ensures.traces) (all_rise v r (range_free v c.args.chosen.now.traces r c.in-Some.is c.requires)))
 
 pub returns-then-len-eq0-clause-few : goal.returns-then-len-eq0-clause-few
 returns-then-len-eq0-clause-few c =
     let v = c.args.overlay.now.volume in
     let r : ℕ × ℕ = (c.in-Some.first, c.in-Some.last) in
     few_there v c.args.map.now.pairs c.args.chosen.now c.as_slice.result.now c.in_ok-tests.tests.items r c.as_slice.ensures c.in_ok-tests.ensures.ok c.in-Some.is
-    c.in_ok-all.field-0.items (range_free v c.args.chosen.now.traces r c.in-Some.is c.requires) (subst (λ (ps : List ℕ). AreRising r.0 r.1 ps) (sym c.in_ok-all.ensures) (all_rise v r (range_free v c.args.chosen.now.traces r c.in-Some.is c.requires)))
+    c.in_ok-all.field-0.items (range_free v c.args.chosen.now.traces r c.in-Some.is c.requires) (subst (λ (ps : List ℕ). AreRising r.0 r.1 ps) (sym c.in_ok-all.ensures.traces) (all_rise v r (range_free v c.args.chosen.now.traces r c.in-Some.is c.requires)))
 
 pub returns-clause-rising : goal.returns-clause-rising
 returns-clause-rising c =

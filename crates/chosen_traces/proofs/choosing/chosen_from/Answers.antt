@@ -32,7 +32,7 @@ pub loop-k-preserved : goal.loop-k-preserved
 loop-k-preserved c =
     let i = c.loop-k.invariant in
     let made = c.in_ok-is_chosen.ensures in
-    let kept = c.in_ok-keep.ensures in
+    let kept = c.in_ok-keep.ensures.traces in
     let v : Volume = c.args.overlay.now.volume in
     let p : ℕ = c.args.a + c.loop-k.k in
     record {
@@ -48,4 +48,5 @@ loop-k-preserved c =
           (said ∙ enough ∙ ap (λ (all : Option Amplitudes). meets_by v.head (trace_at v p) all c.args.tests.now) same) kept (i.chosen fields (made.seen.agreed sure) beside);
       rising = still_rise c.args.a c.loop-k.k c.in-Some.is_chosen c.loop-k.traces.items c.keep.new.traces.items c.requires.first kept i.rising;
       seen = seen_after c.args.overlay.now c.loop-k.overlay c.judged.new.overlay c.loop-k.k 1 i.seen made.seen;
+      memory = grind arith;
     }

@@ -1,4 +1,4 @@
-use Rattle.std.proofs.Common.{◌+◌, ◌-◌, IsTrue}
+use Rattle.std.proofs.Common.{◌+◌, ◌-◌, IsTrue, ◌≤◌}
 use Rattle.field_map.specs.Pairs.{Pairs}
 use Rattle.edit_overlay.specs.CountedVolume.{IsSeen}
 use Rattle.bench_rules.specs.Conditions.{AreRising}
@@ -12,4 +12,5 @@ invariant-loop-k l = record {
   chosen : (fields : Pairs) → IsTrue l.overlay.agreed → HasRecords l.fn.overlay fields → AreChosen l.fn.overlay.volume l.tests l.a l.b l.k l.traces.items;
   rising : AreRising l.a (l.a + l.k - 1) l.traces.items;
   seen : IsSeen l.fn.overlay l.overlay l.k;
+  memory : l.initial.room ≤ l.room;
 }

@@ -14,6 +14,7 @@ loop-test-preserved c =
     record {
       exact = told_more (tells_test c.args.map.now.pairs) c.args.tests.now c.loop-test.test-index _ c.loop-test-test.true (sym c.in-Some.ensures.exact) c.loop-test.invariant.exact;
       tests = tests_more c.args.map.now.pairs c.args.tests.now c.loop-test.told.items c.push.new.self.items c.loop-test.test-index _ c.in-Some.one c.loop-test-test.true c.in-Some.ensures.test pushed c.loop-test.invariant.tests;
+      memory = grind arith;
     }
 
 pub returns-clause-tests : goal.returns-clause-tests

@@ -22,6 +22,7 @@ loop-k-preserved c =
           ∙ trace_seen v c.args.a c.loop-k.k c.args.names.items;
       each = made.each ∙ ap (λ (ns : Pairs). length ns) c.as_slice-in-loop-k.ensures.value;
       seen = seen_after c.args.overlay.now c.loop-k.overlay c.see_trace.new.overlay c.loop-k.k 1 i.seen made.seen;
+      memory = grind arith;
     }
 
 pub returns-clause-ok : goal.returns-clause-ok

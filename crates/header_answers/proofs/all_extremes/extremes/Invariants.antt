@@ -1,4 +1,4 @@
-use Rattle.std.proofs.Common.{◌≡◌, IsTrue, length, map}
+use Rattle.std.proofs.Common.{◌≡◌, IsTrue, length, map, ◌≤◌}
 use Rattle.edit_overlay.specs.CountedVolume.{IsSeen}
 use Rattle.header_answers.specs.Seen.{seen_of}
 use Rattle.header_answers.proofs.SeenLemmas.{numbers_so_far}
@@ -10,4 +10,5 @@ invariant-loop-k l = record {
   numbers : IsTrue l.overlay.agreed → l.seen.items ≡ map (λ e. seen_of (numbers_so_far l.fn.overlay.volume l.a l.k e.1)) l.names.items;
   each : length l.seen.items ≡ length l.names.items;
   seen : IsSeen l.fn.overlay l.overlay l.k;
+  memory : l.initial.room ≤ l.room;
 }

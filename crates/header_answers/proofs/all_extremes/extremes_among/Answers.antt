@@ -29,6 +29,7 @@ loop-p-preserved c =
           ∙ listed_seen v c.args.traces.now c.loop-p.p-index 0 c.args.names.items c.loop-p-test.true;
       each = made.each ∙ ap (λ (ns : Pairs). length ns) c.as_slice-in-loop-p.ensures.value;
       seen = seen_after c.args.overlay.now c.loop-p.overlay c.see_trace.new.overlay c.loop-p.p-index 1 i.seen made.seen;
+      memory = grind arith;
     }
 
 pub returns-clause-ok : goal.returns-clause-ok

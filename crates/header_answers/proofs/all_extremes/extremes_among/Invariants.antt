@@ -1,4 +1,4 @@
-use Rattle.std.proofs.Common.{◌≡◌, IsTrue, length, map, take}
+use Rattle.std.proofs.Common.{◌≡◌, IsTrue, length, map, take, ◌≤◌}
 use Rattle.edit_overlay.specs.CountedVolume.{IsSeen}
 use Rattle.bench_rules.specs.ChosenQueries.{numbers_of_each}
 use Rattle.header_answers.specs.Seen.{seen_of}
@@ -10,4 +10,5 @@ invariant-loop-p l = record {
   numbers : IsTrue l.overlay.agreed → l.seen.items ≡ map (λ e. seen_of (numbers_of_each l.fn.overlay.volume e.1 (take l.p-index l.traces))) l.names.items;
   each : length l.seen.items ≡ length l.names.items;
   seen : IsSeen l.fn.overlay l.overlay l.p-index;
+  memory : l.initial.room ≤ l.room;
 }

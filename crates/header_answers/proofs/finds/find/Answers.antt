@@ -38,7 +38,7 @@ loop-k-preserved c =
     let fits : SFits w128 c.in-Some.number = search rules in
     let i = c.loop-k.invariant in
     let made = c.in_ok-here.ensures in
-    let kept = c.if-not-keep.ensures refl in
+    let kept = c.if-not-keep.ensures.kept refl in
     record {
       found = λ sure.
           let number = sym c.in-Some.is ∙ made.number sure in
@@ -46,4 +46,5 @@ loop-k-preserved c =
           rw (to_z-of_z w128 c.args.low low, to_z-of_z w128 c.args.high high) (go_on c.args.overlay.now.volume c.args.place c.args.low c.args.high c.args.a c.args.b c.loop-k.k c.in-Some.number c.loop-k.found.items c.keep.new.found.items (omega (arith, c.loop-k-test.true, c.requires.range)) (rw (i.seen.volume) at number)
           (rw (to_z-of_z w128 c.args.low low, to_z-of_z w128 c.args.high high, to_z-of_z w128 c.in-Some.number fits) at kept) far);
       seen = seen_after c.args.overlay.now c.loop-k.overlay c.number_at.new.overlay c.loop-k.k 1 i.seen made.seen;
+      memory = grind arith;
     }

@@ -7,14 +7,15 @@ use Rattle.grid_live.specs.declared.line.Line.{Line}
 use Rattle.line_problems.specs.LineProblems.{LinesRise, neighbours_after}
 use Rattle.line_problems.specs.MissingLines.{gaps_of, missing_in, told}
 use Rattle.line_problems.proofs.MissingLemmas.{first_that_fits, next_above, rest_rises, gap_fits, size_of, gap_told, no_gap_told, none_counted, nothing_in}
+use Rattle.room.proofs.RiseLemmas.{risen}
 use Rattle.line_problems.proofs.missing.find_missing.Goals as goal
 use Rattle.line_problems.proofs.missing.find_missing.Goals.{then-is_gap+in_ok-add, else-is_gap}
 
 abbrev no_line : Line
 no_line = record { number = pos 0; traces = 0 }
 
-pub returns-in_default : goal.returns-in_default
-returns-in_default c = rw (nothing_in c.args.lines.now c.in_default.ensures.cases) (c.none-missing.ensures c.args.step)
+pub returns-in_default-clause-told : goal.returns-in_default-clause-told
+returns-in_default-clause-told c = rw (nothing_in c.args.lines.now c.in_default.ensures.cases) (c.none-missing.ensures c.args.step)
 
 pub loop-line-init : goal.loop-line-init
 loop-line-init c =
@@ -27,6 +28,7 @@ loop-line-init c =
       begins = λ f. refl;
       fits = λ h. absurd (omega (arith, h));
       room = omega (arith, ints, none);
+      memory = grind arith;
     }
 
 pub add-requires-clause-fits : goal.add-requires-clause-fits
@@ -59,24 +61,32 @@ loop-line-preserved c =
     let gs = a.invariant.gaps.0 in
     let left = rw more at a.invariant.gaps.2 in
     elim c.if-is_gap.branch [
-      | then-is_gap+in_ok-add w ↦ rw (w.missing-is, w.last-is) record {
+      | then-is_gap+in_ok-add w ↦ rw (w.missing-is, w.last-is, w.room-is) record {
         gaps = (gs ++ (a.last, next) ∷ [], w.in_ok-add.ensures.told gs a.invariant.gaps.1, gap_told _ gs (neighbours_after next behind) _ (a.last, next) left (sym c.is_gap.ensures.gap ∙ w.if-is_gap.true));
         rise = rest_rises a.last next behind rise;
         begins = λ f. absurd (omega (arith, f));
         fits = λ h. first_that_fits c.in-Some.first.now a.last a.line-index a.invariant.begins a.invariant.fits c.is_gap.ensures.fits.0;
         room = omega (arith, ints, size, a.invariant.room, w.in_ok-add.ensures.few);
+        memory = grind (arith, a.invariant.memory, w.in_ok-add.ensures.memory.never_falls);
       }
-      | else-is_gap w ↦ rw (w.missing-is, w.last-is) record {
+      | else-is_gap w ↦ rw (w.missing-is, w.last-is, w.room-is) record {
         gaps = (gs, a.invariant.gaps.1, no_gap_told _ gs (neighbours_after next behind) _ (a.last, next) left (sym c.is_gap.ensures.gap ∙ w.if-is_gap.false));
         rise = rest_rises a.last next behind rise;
         begins = λ f. absurd (omega (arith, f));
         fits = λ h. first_that_fits c.in-Some.first.now a.last a.line-index a.invariant.begins a.invariant.fits c.is_gap.ensures.fits.0;
         room = omega (arith, ints, a.invariant.room);
+        memory = a.invariant.memory;
       }
     ]
 
-pub returns : goal.returns
-returns c =
+pub returns-in_err-add-clause-memory : goal.returns-in_err-add-clause-memory
+returns-in_err-add-clause-memory c = risen _ _ c.loop-line.room _ c.loop-line.invariant.memory (record {
+  never_falls = c.in_err-add.ensures.memory.never_falls;
+  rose = λ p. c.in_err-add.ensures.memory.rose refl;
+})
+
+pub returns-clause-told : goal.returns-clause-told
+returns-clause-told c =
     let a = c.loop-line.invariant.gaps in
     let step = to_z-of_z w64 c.args.step c.ranges.step in
     let none_left = drop_all c.loop-line.line-index c.in-Some.others.now c.loop-line-test.false in

@@ -1,4 +1,4 @@
-use Rattle.std.specs.Prelude.{◌≡◌, ◌+◌, ◌<◌, FitsSigned, ◌+ℤ◌, ◌≤ℤ◌, ◌++◌, ◌∷◌, pos, List, drop, filter}
+use Rattle.std.specs.Prelude.{◌≡◌, ◌+◌, ◌<◌, ◌≤◌, FitsSigned, ◌+ℤ◌, ◌≤ℤ◌, ◌++◌, ◌∷◌, pos, List, drop, filter}
 use Rattle.std.specs.Int.{w32}
 use Rattle.grid_live.specs.declared.line.Line.{Line}
 use Rattle.line_problems.specs.LineProblems.{LinesRise, neighbours_after}
@@ -13,4 +13,5 @@ invariant-loop-line l = record {
   begins : l.line-index ≡ 0 → l.last ≡ l.initial.last;
   fits : 0 < l.line-index → FitsSigned w32 l.initial.last.number;
   room : (pos (l.missing.missing + l.missing.runs) +ℤ l.initial.last.number) ≤ℤ l.last.number;
+  memory : l.initial.room ≤ l.room;
 }

@@ -8,7 +8,7 @@ pub loop-k-init : goal.loop-k-init
 loop-k-init c =
     let new = c.args.new.now in
     let all : length new ≤ c.len-k.result = omega (arith, c.len-k.ensures) in
-    subst (λ (t : Tallies). SameEach (tallies_of c.args.values.now) t) (sym (none_left c.args.records.now new c.args.place c.len-k.result all)) c.requires.counted
+    (subst (λ (t : Tallies). SameEach (tallies_of c.args.values.now) t) (sym (none_left c.args.records.now new c.args.place c.len-k.result all)) c.requires.counted, grind arith)
 
 pub add_at-requires-clause-few : goal.add_at-requires-clause-few
 add_at-requires-clause-few c = few_left c.args.records.now c.args.new.now (c.loop-k.k - 1) c.requires.few

@@ -1,5 +1,6 @@
 use Rattle.std.proofs.Common.{◌∙◌, inl, sym}
 use Rattle.bench_rules.proofs.RangeLemmas.{table_is, table_refused}
+use Rattle.many_traces.proofs.RangeFaultLemmas.{range_rises}
 use Rattle.many_traces.proofs.answers.table_answer.Goals as goal
 
 pub returns-in-Err-clause-reply : goal.returns-in-Err-clause-reply
@@ -11,3 +12,6 @@ returns-in-Err-clause-reply c = λ s same held disk sure.
 pub returns-clause-reply : goal.returns-clause-reply
 returns-clause-reply c = λ s same held disk sure.
     inl (sym (table_is s c.args.overlay.now.volume c.args.map.now.pairs c.args.a c.args.b c.args.fields.now c.range_fault.result same held c.range_fault.ensures.told c.in_default.is ∙ c.in-Ok.ensures.ok sure))
+
+pub returns-in-Some-clause-memory : goal.returns-in-Some-clause-memory
+returns-in-Some-clause-memory c = range_rises c.args.overlay.now.volume c.args.a c.args.b c.in-Some.fault _ c.in-Some.ensures.told

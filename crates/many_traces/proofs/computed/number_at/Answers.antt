@@ -1,3 +1,11 @@
+use Rattle.std.proofs.Common.{◌≡◌, ◌≢◌, ◌∙◌, ℕ, ℤ, List, Some, Result, Ok, Err, ap, sym}
+use Rattle.std.specs.Prelude.{IfErr}
+use Rattle.field_map.specs.declared.place.Place.{Place}
+use Rattle.frame_cut.specs.declared.file_head.Head.{Head}
+use Rattle.bench_rules.specs.declared.refusal.Refusal.{Refusal}
+use Rattle.bench_rules.specs.declared.refusal.Refusal.TheVariants.{OutOfMemory}
+use Rattle.bench_rules.specs.Computed.{refusal_of_result}
+use Rattle.bench_rules.proofs.EditMemoryLemmas.{computed_memory, set_memory}
 use Rattle.trace_view.specs.Shown.{bytes_of, head_of}
 use Rattle.frame_cut.specs.Traces.{trace_at}
 use Rattle.many_traces.proofs.NumbersLemmas.{held, kept_in_kind}
@@ -13,3 +21,18 @@ returns-clause-place c =
     let view = c.in-Some.trace in
     let shape = rw c.in-Some.is at c.in_ok-trace.ensures.shape in
     held c.admitted.result c.computed_in-number.result (head_of view) (bytes_of view) (trace_at c.args.overlay.now.volume c.args.p) c.args.place view.whole shape.1 c.admitted.ensures.ok
+
+-- what refuses the number that is computed, or its set, is not want of memory
+other : (h : Head) (t : List ℕ) (place : Place) (number r : Result ℤ Refusal) → (number ≡ Err OutOfMemory → ⊥) → IfErr r (λ refusal. refusal_of_result h t place number ≡ Some refusal)
+    → IfErr r (λ refusal. refusal ≢ OutOfMemory)
+other h t place number (Ok x) never told = tt
+other h t place (Ok y) (Err r) never told = λ e. set_memory h t (Some place) y (told ∙ ap Some e)
+other h t place (Err q) (Err r) never told = λ e.
+    let same : q ≡ r = cc in
+    never (ap (λ (f : Refusal). let n : Result ℤ Refusal = Err f in n) (same ∙ e))
+
+pub returns-clause-other : goal.returns-clause-other
+returns-clause-other c =
+    let view = c.in-Some.trace in
+    other (head_of view) (bytes_of view) c.args.place c.computed_in-number.result c.admitted.result
+    (λ e. computed_memory (head_of view) (record { place = c.args.place; source = c.args.source; steps = c.args.steps.now }) c.args.p (bytes_of view) (sym c.computed_in-number.ensures ∙ e)) c.admitted.ensures.err

@@ -33,7 +33,7 @@ loop-k-preserved c =
     let free = rw (c.in-Ok.is) at made.none in
     let place = rw (c.in-Ok.is) at made.place in
     let room = rw (c.in-Ok.is) at made.room in
-    let items : c.push.new.self.items ≡ old ++ c.in-Ok.place ∷ [] = c.in_ok-push-in-Ok.ensures.items in
+    let items : c.push.new.self.items ≡ old ++ c.in-Ok.place ∷ [] = rw c.in_ok-told_back-in-Ok.ensures.ok at c.push.ensures.items in
     let here : get_or c.push.new.self.items k 0 ≡ c.in-Ok.place = ap (λ (l : List ℕ). get_or l k 0) items ∙ place-next old c.in-Ok.place k i.count in
     let before : (j : ℕ) → j < k → get_or old j 0 ≡ get_or c.push.new.self.items j 0 =
     λ j less. sym (ap (λ (l : List ℕ). get_or l j 0) items ∙ place-before old c.in-Ok.place j (omega (arith, less, i.count))) in
@@ -49,6 +49,7 @@ loop-k-preserved c =
           (λ j less. subst (λ (n : ℕ). n + width v.head.format * (c.args.last + 1 - c.args.first) ≤ length (trace_at v (get_or ts j 0))) (before j less) (i.room j less))
           (subst (λ (n : ℕ). n + width v.head.format * (c.args.last + 1 - c.args.first) ≤ length (trace_at v (get_or ts k 0))) (sym here) (rw (i.seen.volume) at room));
       seen = seen_after c.args.overlay.now c.loop-k.overlay c.place_at.new.overlay k 1 i.seen made.seen;
+      memory = grind arith;
     }
 
 pub returns-clause-none : goal.returns-clause-none

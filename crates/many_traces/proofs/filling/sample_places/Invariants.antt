@@ -16,4 +16,5 @@ invariant-loop-k l = record {
   room : (j : ℕ) → j < l.k →
       get_or l.places.items j 0 + width l.fn.overlay.volume.head.format * (l.last + 1 - l.first) ≤ length (trace_at l.fn.overlay.volume (get_or l.traces j 0));
   seen : IsSeen l.fn.overlay l.overlay l.k;
+  memory : l.initial.room ≤ l.room;
 }

@@ -13,6 +13,7 @@ loop-place-init c = record {
   first = c.in_ok-standing.ensures.first;
   long = ap (λ (l : List ℕ). length l) c.in_ok-standing.ensures.items ∙ length-range_with_len 0 (length c.args.order.now);
   before = λ k less. absurd (omega (arith, less));
+  memory = grind arith;
 }
 
 pub bring-requires-clause-step : goal.bring-requires-clause-step
@@ -41,10 +42,11 @@ loop-place-preserved c =
             let was : slice_index old k ≡ slice_index order k = c.loop-place.invariant.before k earlier in
             c.in_ok-bring.ensures.brought.others k ne (λ e. ne (differ k place (omega (arith, earlier, c.loop-place-test.true)) c.loop-place-test.true (sym was ∙ e))) ∙ was
       ];
+      memory = grind arith;
     }
 
-pub returns : goal.returns
-returns c =
+pub returns-clause-arranges : goal.returns-clause-arranges
+returns-clause-arranges c =
     let order : List ℕ = c.args.order.now in
     let items : List ℕ = c.loop-place.standing.items.items in
     let same : items ≡ order = same_lists items order c.loop-place.invariant.long (λ k d less.

@@ -1,4 +1,4 @@
-use Rattle.std.proofs.Common.{◌≡◌, ℕ, ◌<◌, length}
+use Rattle.std.proofs.Common.{◌≡◌, ℕ, ◌<◌, length, ◌≤◌}
 use Rattle.std.specs.Prelude.{slice_index}
 use Rattle.many_traces.specs.Arranged.{AreInStep}
 use Rattle.many_traces.proofs.standing.exchanges.Given as goal
@@ -10,4 +10,5 @@ invariant-loop-place l = record {
   first : l.standing.first ≡ l.first;
   long : length l.standing.items.items ≡ length l.order;
   before : (k : ℕ) → k < l.place → slice_index l.standing.items.items k ≡ slice_index l.order k;
+  memory : l.initial.room ≤ l.room;
 }

@@ -43,7 +43,7 @@ loop-k-preserved c =
     let k : ℕ = c.loop-k.k in
     let bytes : List ℕ = c.loop-k.bytes.items in
     let part : List ℕ = c.swap_at.new.part in
-    let more : c.extend_from_slice.new.self.items ≡ bytes ++ part = c.in_ok-extend_from_slice-in-None.ensures.items in
+    let more : c.extend_from_slice.new.self.items ≡ bytes ++ part = rw c.in_ok-told-in-None.ensures.ok at c.extend_from_slice.ensures.items in
     let long : length part ≡ size = c.swap_at.auto.part ∙ i.size in
     let step : (k + 1) * size ≡ k * size + size = omega arith in
     let laid : ℕ → List ℕ → Type 0 = λ j l. splice (trace_at v (get_or ts j 0)) (span_start places) size l ≡ swapped v.head places (trace_at v (get_or ts j 0)) in
@@ -62,6 +62,7 @@ loop-k-preserved c =
           below_more (λ (j : ℕ). HasSpan places (trace_at v (get_or ts j 0))) k i.inside (rw (i.seen.volume) at own);
       size = long;
       seen = seen_after c.args.overlay.now c.loop-k.overlay c.swap_at.new.overlay k 1 i.seen made.seen;
+      memory = grind arith;
     }
 
 pub returns-clause-none : goal.returns-clause-none

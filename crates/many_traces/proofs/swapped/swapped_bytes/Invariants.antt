@@ -1,4 +1,4 @@
-use Rattle.std.proofs.Common.{◌≡◌, ℕ, ◌*◌, ◌<◌, IsTrue, None, length, get_or}
+use Rattle.std.proofs.Common.{◌≡◌, ℕ, ◌*◌, ◌<◌, IsTrue, None, length, get_or, ◌≤◌}
 use Rattle.frame_cut.specs.Splice.{splice}
 use Rattle.frame_cut.specs.Traces.{trace_at}
 use Rattle.trace_store.specs.Each.{part_of}
@@ -18,4 +18,5 @@ invariant-loop-k l = record {
   inside : (j : ℕ) → j < l.k → HasSpan (l.first, l.second) (trace_at l.fn.overlay.volume (get_or l.traces j 0));
   size : length l.part ≡ span_size (l.first, l.second);
   seen : IsSeen l.fn.overlay l.overlay l.k;
+  memory : l.initial.room ≤ l.room;
 }

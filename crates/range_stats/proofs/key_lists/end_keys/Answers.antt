@@ -10,7 +10,7 @@ use Rattle.range_stats.proofs.key_lists.end_keys.Goals as goal
 pub loop-trace-init : goal.loop-trace-init
 loop-trace-init c =
     let all = c.into_iter-trace-iterator.ensures.into_iter_gives ∙ c.iter-trace-items.ensures in
-    (all, c.in_ok-least.ensures.items, c.in_ok-greatest.ensures.items, subst (λ (l : List Record). AreOfFront 0 _ l c.args.records.now) (sym all) (front_of_none c.args.records.now))
+    (all, rw c.in_ok-least.ensures.ok at c.with_capacity.ensures.items, rw c.in_ok-greatest.ensures.ok at c.with_capacity-2.ensures.items, subst (λ (l : List Record). AreOfFront 0 _ l c.args.records.now) (sym all) (front_of_none c.args.records.now), grind arith)
 
 pub overflow_add-sums : goal.overflow_add-sums
 overflow_add-sums c =
@@ -41,6 +41,7 @@ loop-trace-preserved c =
       ends-behind (λ a. a.least) c.loop-trace.yielded c.in-Some.trace _ _ c.loop-trace.invariant.1 c.in_ok-push_ends.ensures.least,
       ends-behind (λ a. a.greatest) c.loop-trace.yielded c.in-Some.trace _ _ c.loop-trace.invariant.2 c.in_ok-push_ends.ensures.greatest,
       subst (λ (s : ℤ). AreOfFront (c.loop-trace.sums.number + v.number) s c.next.new.self c.args.records.now) (sym (sum_of_bits _ _ sum own (sum_fits _ _ _ _ more few))) more,
+      grind arith,
     )
 
 pub returns-clause-number : goal.returns-clause-number

@@ -1,4 +1,4 @@
-use Rattle.std.proofs.Common.{◌≡◌, ◌++◌, map}
+use Rattle.std.proofs.Common.{◌≡◌, ◌≤◌, ◌++◌, map}
 use Rattle.std.specs.Prelude.{filter_map}
 use Rattle.range_stats.proofs.SumLemmas.{AreOfFront}
 use Rattle.range_stats.proofs.key_lists.end_keys.Given as goal
@@ -10,3 +10,4 @@ invariant-loop-trace l =
     × (l.least.items ≡ map (λ a. a.least) (filter_map (λ r. r.amplitudes) l.yielded))
     × (l.greatest.items ≡ map (λ a. a.greatest) (filter_map (λ r. r.amplitudes) l.yielded))
     × AreOfFront l.sums.number l.sums.sum l.trace-iterator l.fn.records
+    × (l.initial.room ≤ l.room)

@@ -1,4 +1,4 @@
-use Rattle.std.proofs.Common.{◌≡◌, ◌∙◌, ◌+◌, ℕ, ℤ, ap₂, rules, subst, sym, List, [], ◌∷◌, ◌++◌, if◌then◌else◌, SFits}
+use Rattle.std.proofs.Common.{◌≡◌, ◌∙◌, ◌+◌, arith, ℕ, ℤ, ap₂, rules, subst, sym, List, [], ◌∷◌, ◌++◌, if◌then◌else◌, SFits}
 use Rattle.std.proofs.lemmas.Int.{to_z-of_z}
 use Rattle.std.proofs.lemmas.List.{append_assoc}
 use Rattle.std.specs.Int.{w32}
@@ -17,4 +17,5 @@ loop-trace-preserved c =
           c.in_ok-raise.ensures.ok q
           ∙ ap₂ (λ (m : ℕ) (v : ℤ). m + (if is_eq (int_cmp v q) then 1 else 0)) (c.loop-trace.invariant.1 q) (to_z-of_z w32 c.of.result fits ∙ c.of.ensures)
           ∙ sym (times-behind (whole_in c.args.which) c.loop-trace.yielded c.in-Some.trace q),
+      grind arith,
     )

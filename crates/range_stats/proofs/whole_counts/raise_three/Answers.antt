@@ -1,4 +1,4 @@
-use Rattle.std.proofs.Common.{◌≡◌, ◌∙◌, subst, rules, SFits, List, [], ◌∷◌, ◌++◌}
+use Rattle.std.proofs.Common.{◌≡◌, ◌∙◌, arith, subst, rules, SFits, List, [], ◌∷◌, ◌++◌}
 use Rattle.std.proofs.lemmas.Int.{to_z-of_z}
 use Rattle.std.specs.Int.{w32}
 use Rattle.std.proofs.lemmas.List.{append_assoc}
@@ -17,4 +17,5 @@ loop-trace-preserved c =
       counted-behind Inline _ _ _ c.loop-trace.yielded c.in-Some.trace c.loop-trace.invariant.1 c.in_ok-raise.ensures.ok (to_z-of_z w32 _ inline),
       counted-behind Crossline _ _ _ c.loop-trace.yielded c.in-Some.trace c.loop-trace.invariant.2 c.in_ok-raise-2.ensures.ok (to_z-of_z w32 _ crossline),
       counted-behind Offset _ _ _ c.loop-trace.yielded c.in-Some.trace c.loop-trace.invariant.3 c.in_ok-raise-3.ensures.ok (to_z-of_z w32 _ offset),
+      grind arith,
     )

@@ -1,4 +1,4 @@
-use Rattle.std.proofs.Common.{◌≡◌, ◌++◌}
+use Rattle.std.proofs.Common.{◌≡◌, ◌≤◌, ◌++◌}
 use Rattle.range_stats.specs.Whole.{AreCounted}
 use Rattle.range_stats.specs.declared.whole_counts.WholeQuantity.TheVariants.{Inline, Crossline, Offset}
 use Rattle.range_stats.proofs.whole_counts.raise_three.Given as goal
@@ -10,3 +10,4 @@ invariant-loop-trace l =
     × AreCounted Inline l.inlines l.yielded
     × AreCounted Crossline l.crosslines l.yielded
     × AreCounted Offset l.offsets l.yielded
+    × (l.initial.room ≤ l.room)

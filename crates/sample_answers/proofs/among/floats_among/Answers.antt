@@ -24,12 +24,13 @@ loop-p-preserved c =
     let of : Volume → ℕ → FloatTraceStatistics = λ u q. float_trace_statistics q (samples_at u q) in
     record {
       found = λ sure.
-          c.in_ok-push.ensures.items
+          (rw c.in_ok-told_back.ensures.ok at c.push.ensures.items)
           ∙ ap (λ (l : List FloatTraceStatistics). l ++ c.in_ok-one.one ∷ []) (i.found (made.seen.agreed sure))
           ∙ ap (λ (s : FloatTraceStatistics). map (of v) (take c.loop-p.p-index ps) ++ s ∷ []) (made.ok sure ∙ ap (λ (u : Volume). of u p) i.seen.volume)
           ∙ sym (map-append (of v) (take c.loop-p.p-index ps) (p ∷ []))
           ∙ sym (ap (map (of v)) (take_more ps c.loop-p.p-index 0 c.loop-p-test.true));
       seen = seen_after c.args.overlay.now c.loop-p.overlay c.of_floats.new.overlay c.loop-p.p-index 1 i.seen made.seen;
+      memory = grind arith;
     }
 
 pub returns-clause-ok : goal.returns-clause-ok

@@ -1,11 +1,11 @@
-use Rattle.std.proofs.Common.{◌≡◌, ◌++◌, length, option_map}
+use Rattle.std.proofs.Common.{◌≡◌, ◌++◌, length, option_map, ◌≤◌}
 use Rattle.script_words.specs.Words.{words_of}
 use Rattle.script_words.specs.Readers.{fields_of}
 use Rattle.script_words.proofs.header_commands.fields.Given as goal
 
 -- the fields of all words are those that are read, and then those of the words left
 abbrev pub invariant-words : goal.invariant-words
-invariant-words l = fields_of (words_of l.initial.words) ≡ option_map (λ ys. l.fields.items ++ ys) (fields_of (words_of l.words))
+invariant-words l = (fields_of (words_of l.initial.words) ≡ option_map (λ ys. l.fields.items ++ ys) (fields_of (words_of l.words))) × (l.initial.room ≤ l.room)
 
 abbrev pub decreases-words : goal.decreases-words
 decreases-words l = length (words_of l.words)

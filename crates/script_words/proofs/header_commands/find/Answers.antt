@@ -10,17 +10,17 @@ use Rattle.script_words.specs.Numbers.{trace_of, number_of}
 use Rattle.script_words.proofs.ParseLemmas.{five_ok, five_err}
 use Rattle.script_words.proofs.header_commands.find.Goals as goal
 
-pub returns-in_err-at : goal.returns-in_err-at
-returns-in_err-at c =
+pub returns-in_err-at-clause-read : goal.returns-in_err-at-clause-read
+returns-in_err-at-clause-read c =
     let words : spelled (words_of c.args.words) ≡ c.in_ok-a.a.now ∷ c.in_ok-a.b.now ∷ c.in_ok-a.at.now ∷ c.in_ok-a.low.now ∷ c.in_ok-a.high.now ∷ [] = rw c.in_ok-a.ensures.ok_part at c.range_and_three.ensures.some in
     let from : trace_of c.args.traces c.in_ok-a.a.now ≡ Some c.in_ok-a-2.a = sym c.trace.ensures ∙ c.in_ok-a-2.ensures.ok_part in
     let to : trace_of c.args.traces c.in_ok-a.b.now ≡ Some c.in_ok-b.b = sym c.trace-2.ensures ∙ c.in_ok-b.ensures.ok_part in
     let first : number_of c.in_ok-a.low.now ≡ Some c.in_ok-low.low = sym c.number.ensures ∙ c.in_ok-low.ensures.ok_part in
     let step : number_of c.in_ok-a.high.now ≡ Some c.in_ok-high.high = sym c.number-2.ensures ∙ c.in_ok-high.ensures.ok_part in
-    five_err (λ a b f x y. Ask (queries.Find a b f x y)) c.args.traces _ _ _ _ _ _ _ _ _ _ words from to first step (λ f n. n) c.in_err-at.field-0.0 c.from_residual-in_err-at.result c.from_residual-in_err-at.ensures.1 c.in_err-at.ensures
+    five_err (λ a b f x y. Ask (queries.Find a b f x y)) c.args.traces _ _ _ _ _ _ _ _ _ _ words from to first step (λ f n. n) c.in_err-at.field-0.0 c.from_residual-in_err-at.result c.from_residual-in_err-at.ensures.1 c.in_err-at.ensures.read
 
-pub returns : goal.returns
-returns c =
+pub returns-clause-read : goal.returns-clause-read
+returns-clause-read c =
     let words : spelled (words_of c.args.words) ≡ c.in_ok-a.a.now ∷ c.in_ok-a.b.now ∷ c.in_ok-a.at.now ∷ c.in_ok-a.low.now ∷ c.in_ok-a.high.now ∷ [] = rw c.in_ok-a.ensures.ok_part at c.range_and_three.ensures.some in
     let from : trace_of c.args.traces c.in_ok-a.a.now ≡ Some c.in_ok-a-2.a = sym c.trace.ensures ∙ c.in_ok-a-2.ensures.ok_part in
     let to : trace_of c.args.traces c.in_ok-a.b.now ≡ Some c.in_ok-b.b = sym c.trace-2.ensures ∙ c.in_ok-b.ensures.ok_part in
@@ -28,4 +28,4 @@ returns c =
     let step : number_of c.in_ok-a.high.now ≡ Some c.in_ok-high.high = sym c.number-2.ensures ∙ c.in_ok-high.ensures.ok_part in
     let fit : SFits w128 c.in_ok-low.low = search rules in
     let fits : SFits w128 c.in_ok-high.high = search rules in
-    rw (to_z-of_z w128 c.in_ok-low.low fit, to_z-of_z w128 c.in_ok-high.high fits) (five_ok (λ a b f x y. Ask (queries.Find a b f x y)) c.args.traces _ _ _ _ _ _ _ _ _ _ words from to first step c.in_ok-at.at c.in_ok-at.ensures)
+    rw (to_z-of_z w128 c.in_ok-low.low fit, to_z-of_z w128 c.in_ok-high.high fits) (five_ok (λ a b f x y. Ask (queries.Find a b f x y)) c.args.traces _ _ _ _ _ _ _ _ _ _ words from to first step c.in_ok-at.at c.in_ok-at.ensures.read)

@@ -15,12 +15,15 @@ loop-trace-preserved c =
     let none : FloatTraceStatistics = record { position = 0; statistics = None; zeros = 0 } in
     let trace : FloatTraceStatistics = get_or traces i none in
     let made : ShownTrace = record { trace = trace; statistics = c.stat.result } in
-    let items : c.push.new.self.items ≡ c.loop-trace.shown.items ++ made ∷ [] = c.in_ok-push.ensures.items in
+    let items : c.push.new.self.items ≡ c.loop-trace.shown.items ++ made ∷ [] = rw c.in_ok-told_back.ensures.ok at c.push.ensures.items in
     let more : i + 1 ≡ suc i = omega arith in
     let P = λ (t : ShownTrace). ShowsStat c.args.format t.trace.statistics t.statistics in (
-      ap (map (λ (t : ShownTrace). t.trace)) items
-          ∙ map-append (λ (t : ShownTrace). t.trace) c.loop-trace.shown.items (made ∷ [])
-          ∙ ap (λ (l : List FloatTraceStatistics). l ++ trace ∷ []) c.loop-trace.invariant.0
-          ∙ sym (ap (λ (n : ℕ). take n traces) more ∙ take-suc traces i none c.loop-trace-test.true),
-      subst (All P) (sym items) (All-append P c.loop-trace.shown.items (made ∷ []) c.loop-trace.invariant.1 (All-cons P made [] c.stat.ensures (All-nil P))),
+      (
+        ap (map (λ (t : ShownTrace). t.trace)) items
+            ∙ map-append (λ (t : ShownTrace). t.trace) c.loop-trace.shown.items (made ∷ [])
+            ∙ ap (λ (l : List FloatTraceStatistics). l ++ trace ∷ []) c.loop-trace.invariant.0.0
+            ∙ sym (ap (λ (n : ℕ). take n traces) more ∙ take-suc traces i none c.loop-trace-test.true),
+        subst (All P) (sym items) (All-append P c.loop-trace.shown.items (made ∷ []) c.loop-trace.invariant.0.1 (All-cons P made [] c.stat.ensures (All-nil P))),
+      ),
+      grind arith,
     )

@@ -15,7 +15,7 @@ returns-in_ok-push_row-clause-rows c =
     let again = row_at_place c.args.records.now c.args.kept.position c.saturating_sub-place.result value c.in-Some.record c.saturating_sub-place.ensures (sym c.get.ensures.record ∙ c.in-Some.is) in
     let fits : SFits w128 c.value.result = search rules in
     let read : to_z w128 (of_z w128 c.value.result) ≡ value = to_z-of_z w128 c.value.result fits ∙ c.value.ensures in
-    c.in_ok-push_row.ensures
+    c.in_ok-push_row.ensures.rows
     ∙ ap (λ (v : ℤ). c.args.rows.now.items ++ row_of c.args.kept.position (facts_of c.in-Some.record) (Some v)) read
     ∙ ap (λ (rows : List Row). c.args.rows.now.items ++ rows) (sym again)
 

@@ -34,7 +34,7 @@ loop-at-preserved c =
     let here : slice_get o.payloads i ≡ Some packed =
     ap (λ (ps : List PackedRecord). slice_get ps i) (sym seen.payloads) ∙ (ap (λ (n : ℕ). slice_get now.payloads n) (sym place) ∙ c.payload-packed.ensures) in
     let grew : new ≡ old ++ row_of (i + 1) (facts_of (record_in packed)) s =
-    c.in_ok-push_row.ensures ∙ ap (λ (r : Record). old ++ row_of (i + 1) (facts_of r) s) c.record.ensures in
+    c.in_ok-push_row.ensures.rows ∙ ap (λ (r : Record). old ++ row_of (i + 1) (facts_of r) s) c.record.ensures in
     record {
       written = λ sure. row_is_written v.head k i o.payloads v.traces packed s old new _ here there
           (sample.sample sure ∙ (ap (λ (u : Volume). sample_of u.head (trace_at u (i + 1)) k) seen.volume ∙ ap (λ (n : ℕ). sample_of v.head (get_or v.traces n []) k) place))
@@ -42,6 +42,7 @@ loop-at-preserved c =
       fits = fits_more v.head.format old new (i + 1) (facts_of (record_in packed)) s grew
           (subst (λ (u : Volume). IfSome s (λ x. IsTrue (value_fits u.head.format x))) seen.volume sample.fits) told.fits;
       seen = seen_more o now c.sample_in.new.overlay i seen sample.looked sample.agreed;
+      memory = grind arith;
     }
 
 pub returns-clause-rows : goal.returns-clause-rows

@@ -1,4 +1,4 @@
-use Rattle.std.proofs.Common.{◌≡◌, ◌+◌, ◌++◌, map, drop, All, IsTrue}
+use Rattle.std.proofs.Common.{◌≡◌, ◌+◌, ◌++◌, map, drop, All, IsTrue, ◌≤◌}
 use Rattle.trace_record.specs.Packed.{record_in}
 use Rattle.edit_overlay.specs.CountedVolume.{IsSeen}
 use Rattle.time_slice.specs.Fitting.{value_fits}
@@ -15,4 +15,5 @@ invariant-loop-at l =
       written : IsTrue l.overlay.agreed → l.rows.items ++ rows_from (l.at + 1) (drop l.at all) ≡ rows_from 1 all;
       fits : All (λ r. IsTrue (value_fits v.head.format r.value)) l.rows.items;
       seen : IsSeen l.fn.overlay l.overlay l.at;
+      memory : l.initial.room ≤ l.room;
     }

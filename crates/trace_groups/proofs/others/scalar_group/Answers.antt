@@ -7,8 +7,8 @@ use Rattle.trace_groups.specs.declared.problem.TraceProblem.TheVariants.{OtherSc
 use Rattle.trace_groups.proofs.RecordLemmas.{scalars_in}
 use Rattle.trace_groups.proofs.others.scalar_group.Goals as goal
 
-pub returns : goal.returns
-returns c =
+pub returns-clause-group : goal.returns-clause-group
+returns-clause-group c =
     subst (λ (l : List ℤ). IfOk c.other_group.result (λ group. option_map group_in group ≡ group_of OtherScalar (other_marks l)))
-    (c.as_slice.ensures.value ∙ c.in_ok-scalars.ensures ∙ scalars_in c.args.records.now)
-    c.other_group.ensures
+    (c.as_slice.ensures.value ∙ c.in_ok-scalars.ensures.scalars ∙ scalars_in c.args.records.now)
+    c.other_group.ensures.group

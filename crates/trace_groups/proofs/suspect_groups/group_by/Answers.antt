@@ -8,7 +8,7 @@ use Rattle.trace_groups.proofs.MarkLemmas.{tally_behind, grouped, one_more}
 use Rattle.trace_groups.proofs.suspect_groups.group_by.Goals as goal
 
 pub loop-trace-init : goal.loop-trace-init
-loop-trace-init g c = (c.into_iter-trace-iterator.ensures.into_iter_gives ∙ c.iter-trace-items.ensures, refl, c.new-tally.ensures.within, c.new-tally.ensures.tally)
+loop-trace-init g c = (c.into_iter-trace-iterator.ensures.into_iter_gives ∙ c.iter-trace-items.ensures, refl, c.new-tally.ensures.within, c.new-tally.ensures.tally, grind arith)
 
 pub overflow_add-position : goal.overflow_add-position
 overflow_add-position g c =
@@ -41,6 +41,7 @@ loop-trace-preserved g c =
       subst (λ l. IsTallyOf (marks_of (g.S.Suspicion.facts c.args.suspicion.now) l) c.push_any.new.self) (sym (map-append facts_of ys (x ∷ [])))
           (tally_behind (g.S.Suspicion.facts c.args.suspicion.now) (map facts_of ys) (facts_of x) (c.loop-trace.position + 1) at c.facts_in.result c.facts_in.ensures
           c.loop-trace.tally c.push_any.new.self c.in_ok-push_any.ensures.tally h.3),
+      grind arith,
     )
 
 pub finish-requires : goal.finish-requires
@@ -50,10 +51,10 @@ finish-requires g c =
     let same = ap length h.0 in
     omega (arith, h.2.1, c.requires, whole, same)
 
-pub returns : goal.returns
-returns g c =
+pub returns-clause-group : goal.returns-clause-group
+returns-clause-group g c =
     let h = c.loop-trace.invariant in
     let all : c.loop-trace.yielded ≡ c.args.records.now = sym (append-nil c.loop-trace.yielded) ∙ ap (λ (l : List Record). c.loop-trace.yielded ++ l) (sym c.in-None.ensures.steps.0) ∙ h.0 in
     grouped c.finish.result c.args.problem c.loop-trace.tally (marks_of (g.S.Suspicion.facts c.args.suspicion.now) (map facts_of c.args.records.now))
     (subst (λ l. IsTallyOf (marks_of (g.S.Suspicion.facts c.args.suspicion.now) (map facts_of l)) c.loop-trace.tally) all h.3)
-    c.finish.ensures
+    c.finish.ensures.group

@@ -1,4 +1,4 @@
-use Rattle.std.proofs.Common.{◌≡◌, ◌++◌, length, map}
+use Rattle.std.proofs.Common.{◌≡◌, ◌≤◌, ◌++◌, length, map}
 use Rattle.trace_record.specs.Facts.{facts_of}
 use Rattle.trace_groups.specs.Groups.{marks_of}
 use Rattle.trace_groups.specs.OfTally.{IsTallyOf, IsWithin}
@@ -9,3 +9,4 @@ abbrev pub invariant-loop-trace : goal.invariant-loop-trace
 invariant-loop-trace g l =
     (l.yielded ++ l.trace-iterator ≡ l.fn.records) × (l.position ≡ length l.yielded) × IsWithin (length l.yielded) l.tally
     × IsTallyOf (marks_of (g.S.Suspicion.facts l.fn.suspicion) (map facts_of l.yielded)) l.tally
+    × (l.initial.room ≤ l.room)

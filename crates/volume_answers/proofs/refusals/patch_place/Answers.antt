@@ -1,6 +1,8 @@
-use Rattle.std.proofs.Common.{◌≡◌, ◌∙◌, ◌<◌, ◌^◌, ℕ, refl, sym, arith}
+use Rattle.std.proofs.Common.{◌≡◌, ◌∙◌, ◌<◌, ◌^◌, ℕ, Some, ap, refl, sym, arith}
+use Rattle.sample_codes.specs.Formats.{values}
 use Rattle.frame_cut.specs.Frames.{sample_count}
 use Rattle.trace_view.specs.Shown.{bytes_of, head_of}
+use Rattle.bench_rules.proofs.EditMemoryLemmas.{values_memory}
 use Rattle.volume_answers.proofs.RoomLemmas.{sample_room}
 use Rattle.volume_answers.proofs.refusals.patch_place.Goals as goal
 
@@ -15,3 +17,8 @@ returns-in-None-clause-room c =
     sample_room c.args.overlay.now.volume c.args.p c.args.k c.sample_place.result c.args.values.now (head_of view) (bytes_of view) (there.0 refl) shape.0 view.whole shape.1
     (few (sample_count (head_of view) (bytes_of view)) c.sample_count-count.result c.sample_count-count.ensures c.sample_count-count.type_inv)
     c.sample_place.ensures (sym c.patch_refusal.ensures ∙ c.in-None.is)
+
+pub returns-in-Some-patch_refusal-clause-other : goal.returns-in-Some-patch_refusal-clause-other
+returns-in-Some-patch_refusal-clause-other c = λ e.
+    let view = c.in-Some.trace in
+    values_memory (values (head_of view).format) (head_of view) (bytes_of view) c.args.k c.args.values.now (sym c.patch_refusal.ensures ∙ c.in-Some-patch_refusal.is ∙ ap Some e)

@@ -6,6 +6,6 @@ use Rattle.bench_rules.specs.Answer.{Reply}
 use Rattle.bench_rules.proofs.LiveLemmas.{shows_the_cells}
 use Rattle.volume_answers.proofs.report_answers.cells.Goals as goal
 
-pub returns : goal.returns
-returns c = λ s live.
-    inl (ap (λ (l : List Cell). let r : Reply = Ok (answers.Grid l) in r) (c.new.ensures ∙ shows_the_cells s c.args.grid.now c.in_ok-cells.field-0.items live c.in_ok-cells.ensures))
+pub returns-clause-reply : goal.returns-clause-reply
+returns-clause-reply c = λ s live.
+    inl (ap (λ (l : List Cell). let r : Reply = Ok (answers.Grid l) in r) (c.new.ensures ∙ shows_the_cells s c.args.grid.now c.in_ok-cells.field-0.items live c.in_ok-cells.ensures.cells))

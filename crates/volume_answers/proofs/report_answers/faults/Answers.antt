@@ -13,11 +13,11 @@ use Rattle.bench_rules.specs.Reports.{head_facts}
 use Rattle.bench_rules.proofs.LiveLemmas.{wants_memory}
 use Rattle.volume_answers.proofs.report_answers.faults.Goals as goal
 
-pub returns-in_err-report : goal.returns-in_err-report
-returns-in_err-report c = λ s live are head. wants_memory s c.from_residual.result c.from_residual.ensures.1
+pub returns-in_err-report-clause-reply : goal.returns-in_err-report-clause-reply
+returns-in_err-report-clause-reply c = λ s live are head. wants_memory s c.from_residual.result c.from_residual.ensures.1
 
-pub returns : goal.returns
-returns c = λ s live are head.
+pub returns-clause-reply : goal.returns-clause-reply
+returns-clause-reply c = λ s live are head.
     let counted : Same (tally_of_faults c.args.triples.now) (tally_of keys_of_faults (map facts_of c.args.records.now)) = subst (λ (fs : List Facts). Same (tally_of_faults c.args.triples.now) (tally_of keys_of_faults fs)) (sym are) live in
     inl (ap (λ (l : List Fault). let r : Reply = Ok (answers.Faults l) in r)
-    (c.new.ensures ∙ c.in_ok-report.ensures counted ∙ ap (λ (h : HeadFacts). faults_of h (map facts_of c.args.records.now)) head ∙ ap (λ (fs : List Facts). faults_of (head_facts s.volume) fs) are))
+    (c.new.ensures ∙ c.in_ok-report.ensures.faults counted ∙ ap (λ (h : HeadFacts). faults_of h (map facts_of c.args.records.now)) head ∙ ap (λ (fs : List Facts). faults_of (head_facts s.volume) fs) are))

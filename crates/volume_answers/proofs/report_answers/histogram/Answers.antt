@@ -6,6 +6,6 @@ use Rattle.bench_rules.specs.Answer.{Reply}
 use Rattle.bench_rules.proofs.LiveLemmas.{shows_the_histogram}
 use Rattle.volume_answers.proofs.report_answers.histogram.Goals as goal
 
-pub returns : goal.returns
-returns c = λ s live.
-    inl (ap (λ (l : List FoldCount). let r : Reply = Ok (answers.Histogram l) in r) (c.new.ensures ∙ shows_the_histogram s c.args.grid.now c.in_ok-histogram.field-0.items live c.in_ok-histogram.ensures))
+pub returns-clause-reply : goal.returns-clause-reply
+returns-clause-reply c = λ s live.
+    inl (ap (λ (l : List FoldCount). let r : Reply = Ok (answers.Histogram l) in r) (c.new.ensures ∙ shows_the_histogram s c.args.grid.now c.in_ok-histogram.field-0.items live c.in_ok-histogram.ensures.histogram))

@@ -6,6 +6,6 @@ use Rattle.bench_rules.specs.Answer.{Reply}
 use Rattle.bench_rules.proofs.LiveLemmas.{shows_the_inlines}
 use Rattle.volume_answers.proofs.report_answers.inlines.Goals as goal
 
-pub returns : goal.returns
-returns c = λ s live.
-    inl (ap (λ (l : List Line). let r : Reply = Ok (answers.Inlines l) in r) (c.new.ensures ∙ shows_the_inlines s c.args.grid.now c.in_ok-inlines.field-0.items live c.in_ok-inlines.ensures))
+pub returns-clause-reply : goal.returns-clause-reply
+returns-clause-reply c = λ s live.
+    inl (ap (λ (l : List Line). let r : Reply = Ok (answers.Inlines l) in r) (c.new.ensures ∙ shows_the_inlines s c.args.grid.now c.in_ok-inlines.field-0.items live c.in_ok-inlines.ensures.inlines))

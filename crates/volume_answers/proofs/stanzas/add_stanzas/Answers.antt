@@ -6,4 +6,4 @@ use Rattle.volume_answers.proofs.stanzas.add_stanzas.Goals as goal
 pub returns-clause-ok : goal.returns-clause-ok
 returns-clause-ok c =
     subst (λ (s : List (ℕ × List ℕ)). OnOk c.add_names.result (c.add_names.new.all.items ≡ c.args.all.now.items ++ s))
-    (numbered c.args.number c.in_ok-names.names.items ∙ ap (map (with_number c.args.number)) c.in_ok-names.ensures) c.add_names.ensures.ok
+    (numbered c.args.number c.in_ok-names.names.items ∙ ap (map (with_number c.args.number)) c.in_ok-names.ensures.names) c.add_names.ensures.ok

@@ -1,6 +1,9 @@
-use Rattle.std.proofs.Common.{◌+◌, length, inr, arith}
+use Rattle.std.proofs.Common.{◌≡◌, ◌∙◌, ◌+◌, Some, ap, length, inr, arith}
+use Rattle.frame_cut.specs.declared.load_fault.LoadFault.TheVariants.{OutOfMemory}
+use Rattle.frame_cut.specs.Walk.{left_at}
+use Rattle.frame_cut.proofs.MemoryLemmas.{trace_memory}
 use Rattle.trace_store.specs.Stores.{traces_of}
-use Rattle.volume_loading.proofs.PassLemmas.{length_at, refused_at, tail_at, IsFrontAt}
+use Rattle.volume_loading.proofs.PassLemmas.{length_at, refused_at, some_file, tail_at, IsFrontAt}
 use Rattle.volume_loading.proofs.pass_reads.next_whole.Goals as goal
 
 pub returns-in-Err-clause-kept : goal.returns-in-Err-clause-kept
@@ -32,6 +35,29 @@ returns-in-Err-2-clause-refused g c =
       fits = omega (arith, c.min-front.ensures);
     } in
     inr (refused_at c.hold.new.self.loaded.bytes c.args.size s.head c.args.limits (length (traces_of s) + 1) c.args.at c.hold.new.window.bytes c.hold.new.self.head _ _ c.front.result.now c.min-front.result is c.args.reading c.in-Err.fault c.keeps.result c.in-Err.ensures.refused c.keeps.ensures c.if-keeps.false)
+
+pub returns-in-Err-2-clause-memory : goal.returns-in-Err-2-clause-memory
+returns-in-Err-2-clause-memory g c =
+    let s = c.args.store.now in
+    let next = c.hold.ensures.next c.args.at c.requires.next in
+    let is : IsFrontAt c.hold.new.self.loaded.bytes c.args.size s.head (length (traces_of s) + 1) c.args.at c.hold.new.window.bytes c.hold.new.self.head _ _ c.front.result.now c.min-front.result = record {
+      head = c.hold.ensures.grown.head;
+      number = omega (arith, c.from-p.ensures, c.count.ensures.traces);
+      rest = omega (arith, c.from.ensures);
+      shown = c.front.ensures;
+      is_next = next;
+      there = c.in_ok-hold.ensures.there;
+      fits = omega (arith, c.min-front.ensures);
+    } in
+    let refused = refused_at c.hold.new.self.loaded.bytes c.args.size s.head c.args.limits (length (traces_of s) + 1) c.args.at c.hold.new.window.bytes c.hold.new.self.head _ _ c.front.result.now c.min-front.result is c.args.reading c.in-Err.fault c.keeps.result c.in-Err.ensures.refused c.keeps.ensures c.if-keeps.false in
+    let file = some_file c.hold.new.self.loaded.bytes c.args.size c.hold.ensures.within in
+    let told = (refused file.0 file.1).0 in
+    record {
+      never_falls = omega arith;
+      rose = λ p.
+          let memory : c.in-Err.fault ≡ OutOfMemory = cc in
+          absurd (trace_memory s.head c.args.limits (length (traces_of s) + 1) (left_at file.0 s.head c.args.at) (told ∙ ap Some memory));
+    }
 
 pub returns-clause-whole : goal.returns-clause-whole
 returns-clause-whole g c =

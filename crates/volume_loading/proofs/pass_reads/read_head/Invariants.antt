@@ -8,6 +8,7 @@ invariant-turns l = record {
   grown : HasGrown l.fn.held l.held;
   next : IsNextOf l.held.bytes 0 l.window.bytes;
   within : length l.held.bytes ≤ l.size;
+  memory : l.initial.room ≤ l.room;
 }
 
 abbrev pub decreases-turns : goal.decreases-turns

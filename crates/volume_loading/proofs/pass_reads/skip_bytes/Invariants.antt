@@ -9,6 +9,7 @@ invariant-blocks-2 g l = record {
   next : (at : ℕ) → IsNextOf l.fn.store.loaded.bytes at l.fn.window.bytes → IsNextOf l.store.loaded.bytes (at + (l.n - l.left)) l.window.bytes;
   within : length l.store.loaded.bytes ≤ l.size;
   left : l.left ≤ l.n;
+  memory : l.initial.room ≤ l.room;
 }
 
 abbrev pub decreases-blocks-2 : goal.decreases-blocks-2

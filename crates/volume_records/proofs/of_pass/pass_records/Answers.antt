@@ -1,5 +1,4 @@
-use Rattle.std.proofs.Common.{◌≡◌, ◌+◌, ◌∙◌, false, ℕ, List, Result, Ok, Err, OnOk, length, ap, subst, sym, arith}
-use Rattle.std.specs.Prelude.{is_err}
+use Rattle.std.proofs.Common.{◌≡◌, ◌+◌, ◌∙◌, ℕ, List, length, ap, subst, sym, arith}
 use Rattle.std.proofs.lemmas.List.{length_push}
 use Rattle.trace_record.specs.declared.packed_record.PackedRecord.{PackedRecord}
 use Rattle.edit_overlay.specs.CountedVolume.{RisesAtMost}
@@ -8,18 +7,13 @@ use Rattle.volume_records.specs.OfPass.{HasRecords}
 use Rattle.volume_records.proofs.OnePassLemmas.{looks_rise, read_on_again, record_passed}
 use Rattle.volume_records.proofs.of_pass.pass_records.Goals as goal
 
--- what holds where no error came
-without_error : {T E : Type 0} (r : Result T E) (P : Type 0) → is_err r ≡ false → OnOk r P → P
-without_error (Ok x) P none holds = holds
-without_error (Err y) P none holds = absurd cc
-
 pub turns-preserved : goal.turns-preserved
 turns-preserved c =
     let fields = c.args.fields.now.pairs in
     let i = c.turns.invariant in
     let seen : PassedFile PackedRecord = c.next_trace.new.self in
     let is = c.next_trace.ensures.same in
-    let put : c.push.new.self ≡ with_passed seen c.of.result = without_error c.push.result (c.push.new.self ≡ with_passed seen c.of.result) (sym c.is_err.ensures.value ∙ c.if-is_err.false) c.push.ensures.ok in
+    let put : c.push.new.self ≡ with_passed seen c.of.result = c.in-Ok.ensures.ok in
     let has : HasRecords fields seen = subst (λ (p : PassedFile PackedRecord). HasRecords fields p) (sym is) i.records in
     let more = record_passed fields seen c.of.result c.passed_record-record.result has c.of.ensures c.passed_record-record.ensures in
     let looked = c.in-Ok-true.ensures.looked c.in-Ok-true.field-0-test in
@@ -37,4 +31,5 @@ turns-preserved c =
         size = ap (λ (p : PassedFile PackedRecord). p.size) put ∙ ap (λ (p : PassedFile PackedRecord). p.size) is ∙ i.same.size;
       };
       looks = (omega (arith, looks.0, kept), omega (arith, looks.1, kept, count));
+      memory = grind arith;
     }

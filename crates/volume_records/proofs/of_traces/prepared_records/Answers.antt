@@ -34,6 +34,7 @@ loop-k-preserved c =
       count = ap (λ (rs : List Record). length rs) grew ∙ (length_push c.loop-k.records c.in_ok-record.record ∙ ap (λ m. m + 1) i.count);
       seen = seen_both c.args.overlay.now c.loop-k.overlay c.laid_headers.new.overlay n 1 i.seen made.seen;
       told = λ tells. (made.told (tells_of_part tells)).1 ∙ i.told tells;
+      memory = grind arith;
     }
 
 pub laid_headers-requires-clause-laid : goal.laid_headers-requires-clause-laid

@@ -1,4 +1,4 @@
-use Rattle.std.proofs.Common.{◌≡◌, ◌-◌, IsTrue, length, take, drop}
+use Rattle.std.proofs.Common.{◌≡◌, ◌≤◌, ◌-◌, IsTrue, length, take, drop}
 use Rattle.std.specs.Prelude.{map}
 use Rattle.trace_record.specs.Facts.{facts_of}
 use Rattle.trace_record.specs.Packed.{record_in}
@@ -15,4 +15,5 @@ invariant-loop-k l = record {
   count : length l.records ≡ l.k;
   seen : IsSeen l.fn.overlay l.overlay l.k;
   told : IsTrue (tells_record l.fn.fields.pairs l.fn.at l.fn.size) → l.overlay ≡ l.fn.overlay;
+  memory : l.initial.room ≤ l.room;
 }

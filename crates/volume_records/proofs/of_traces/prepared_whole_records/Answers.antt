@@ -22,4 +22,5 @@ loop-k-preserved c =
       few = one_few_more v w c.args.a n c.loop-k.records c.push.new.self c.in_ok-record.record i.seen.prepared i.count grew made.few i.few;
       count = ap (λ (rs : List Record). length rs) grew ∙ (length_push c.loop-k.records c.in_ok-record.record ∙ ap (λ m. m + 1) i.count);
       seen = seen_more c.args.overlay.now c.loop-k.overlay c.prepared_record.new.overlay n i.seen made.looked made.agreed;
+      memory = grind arith;
     }

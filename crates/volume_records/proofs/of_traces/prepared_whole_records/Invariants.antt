@@ -13,4 +13,5 @@ invariant-loop-k l = record {
   few : (j : ℕ) → j < l.k → get_or (map (λ r. r.number) l.records) j 0 ≤ length (trace_at l.fn.overlay.prepared (l.fn.a + j));
   count : length l.records ≡ l.k;
   seen : IsSeen l.fn.overlay l.overlay l.k;
+  memory : l.initial.room ≤ l.room;
 }

@@ -34,4 +34,5 @@ loop-k-preserved c =
       looks = search rules;
       loaded = search rules;
       agreed = search rules;
+      memory = grind arith;
     }

@@ -1,4 +1,4 @@
-use Rattle.std.proofs.Common.{◌≡◌, length, take}
+use Rattle.std.proofs.Common.{◌≡◌, ◌≤◌, length, take}
 use Rattle.std.specs.Prelude.{map}
 use Rattle.trace_record.specs.Facts.{facts_of}
 use Rattle.trace_record.specs.Packed.{record_in}
@@ -15,4 +15,5 @@ invariant-loop-k l = record {
   looks : RisesAtMost l.fn.loading.looks l.loading.looks (length l.loading.payloads);
   loaded : l.loading.loaded ≡ l.fn.loading.loaded;
   agreed : l.loading.agreed ≡ l.fn.loading.agreed;
+  memory : l.initial.room ≤ l.room;
 }

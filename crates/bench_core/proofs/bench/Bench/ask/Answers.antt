@@ -12,4 +12,5 @@ returns c =
       loaded = c.ask.ensures.loaded;
       looks = rw (other.0 c.self.inside.volume.state _) c.ask.ensures.looks;
       kept = sym (same_kept c.ask.result (other.1 _));
+      memory = c.ask.ensures.memory;
     })

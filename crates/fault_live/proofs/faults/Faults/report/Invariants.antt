@@ -1,4 +1,4 @@
-use Rattle.std.proofs.Common.{◌≡◌, ◌<◌, ◌+◌, ◌++◌, length, map}
+use Rattle.std.proofs.Common.{◌≡◌, ◌≤◌, ◌<◌, ◌+◌, ◌++◌, length, map}
 use Rattle.std.specs.Prelude.{flat_map}
 use Rattle.std.specs.List.{enumerate_from}
 use Rattle.std.specs.BTreeMap.{get}
@@ -15,6 +15,7 @@ abbrev pub invariant-loop-trace : goal.invariant-loop-trace
 invariant-loop-trace l =
     (l.yielded ++ l.trace-iterator ≡ l.fn.records)
     × (l.position ≡ length l.yielded)
+    × (l.initial.room ≤ l.room)
     × (Same (tally_of_faults l.fn.self) (tally_of keys_of_faults (map facts_of l.fn.records))
     → (l.report.items ++ flat_map (λ e. trace_faults l.fn.head (map facts_of l.fn.records) e.0 e.1) (enumerate_from (l.position + 1) (map facts_of l.trace-iterator)) ≡ faults_of l.fn.head (map facts_of l.fn.records))
     × ((g : Facts) → 1 < count_of triple_cmp l.fn.self.triples (g.inline, g.crossline, g.offset) → get triple_cmp l.firsts (g.inline, g.crossline, g.offset) ≡ first_with (map facts_of l.yielded) g))

@@ -1,4 +1,4 @@
-use Rattle.std.proofs.Common.{◌≡◌, ◌∙◌, ◌+◌, ap, subst, List, [], ◌∷◌, ◌++◌}
+use Rattle.std.proofs.Common.{◌≡◌, ◌∙◌, ◌+◌, ap, arith, subst, List, [], ◌∷◌, ◌++◌}
 use Rattle.std.proofs.lemmas.List.{append_assoc}
 use Rattle.trace_record.specs.declared.record.Record.{Record}
 use Rattle.grid_live.proofs.CountedLemmas.{counted_behind}
@@ -11,4 +11,5 @@ loop-trace-preserved c =
       append_assoc c.loop-trace.yielded (c.in-Some.trace ∷ []) c.next.new.self ∙ parts,
       counted_behind c.loop-trace.self c.loop-trace.yielded c.in-Some.trace c.loop-trace.invariant.1 c.of.result c.of.ensures
           (record { records = h.records + 1; cells = h.cells; inlines = h.inlines; crosslines = h.crosslines; fitting = h.fitting }) (ap (λ n. n + 1) c.in_ok-raise.ensures.records) c.in_ok-raise.ensures.ok,
+      grind arith,
     )

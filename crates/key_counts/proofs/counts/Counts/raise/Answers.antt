@@ -20,4 +20,5 @@ returns-in-Some-clause-ok g c =
 
 pub invariant_of-self-2 : goal.invariant_of-self-2
 invariant_of-self-2 g c =
-    rw (c.in_ok-insert.ensures.entries, c.get_mut.follows.holds-at-none) (All-values-insert_entry g.K.Ord.cmp c.args.key _ (λ n. 0 < n) c.self.inside.map.entries c.self.invariant (omega arith))
+    let entries = rw c.in_ok-told_back.ensures.ok at c.insert-inserted.ensures.entries in
+    rw (entries, c.get_mut.follows.holds-at-none) (All-values-insert_entry g.K.Ord.cmp c.args.key _ (λ n. 0 < n) c.self.inside.map.entries c.self.invariant (omega arith))

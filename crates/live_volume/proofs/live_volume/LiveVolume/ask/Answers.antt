@@ -20,7 +20,7 @@ use Rattle.live_volume.proofs.live_volume.LiveVolume.ask.Goals as goal
 
 pub returns-in-Fields-clause-reply : goal.returns-in-Fields-clause-reply
 returns-in-Fields-clause-reply c = λ sure.
-    subst (λ (q : Query). IsReply c.args.self.now.state q c.fields_answer.result) (sym c.in-Fields.is) (c.fields_answer.ensures c.args.self.now.state (sym (ap (λ (t : Session). t.state.fields) c.self.view_is)))
+    subst (λ (q : Query). IsReply c.args.self.now.state q c.fields_answer.result) (sym c.in-Fields.is) (c.fields_answer.ensures.reply c.args.self.now.state (sym (ap (λ (t : Session). t.state.fields) c.self.view_is)))
 
 pub returns-in-Get-clause-reply : goal.returns-in-Get-clause-reply
 returns-in-Get-clause-reply c = λ sure.
@@ -44,19 +44,19 @@ returns-in-Extremes-clause-reply c = λ sure.
 
 pub returns-in-Grid-clause-reply : goal.returns-in-Grid-clause-reply
 returns-in-Grid-clause-reply c = λ sure.
-    subst (λ (q : Query). IsReply c.args.self.now.state q c.cells.result) (sym c.in-Grid.is) (c.cells.ensures c.args.self.now.state (c.grid-in-Grid.ensures sure))
+    subst (λ (q : Query). IsReply c.args.self.now.state q c.cells.result) (sym c.in-Grid.is) (c.cells.ensures.reply c.args.self.now.state (c.grid-in-Grid.ensures sure))
 
 pub returns-in-Inlines-clause-reply : goal.returns-in-Inlines-clause-reply
 returns-in-Inlines-clause-reply c = λ sure.
-    subst (λ (q : Query). IsReply c.args.self.now.state q c.inlines.result) (sym c.in-Inlines.is) (c.inlines.ensures c.args.self.now.state (c.grid-in-Inlines.ensures sure))
+    subst (λ (q : Query). IsReply c.args.self.now.state q c.inlines.result) (sym c.in-Inlines.is) (c.inlines.ensures.reply c.args.self.now.state (c.grid-in-Inlines.ensures sure))
 
 pub returns-in-Crosslines-clause-reply : goal.returns-in-Crosslines-clause-reply
 returns-in-Crosslines-clause-reply c = λ sure.
-    subst (λ (q : Query). IsReply c.args.self.now.state q c.crosslines.result) (sym c.in-Crosslines.is) (c.crosslines.ensures c.args.self.now.state (c.grid-in-Crosslines.ensures sure))
+    subst (λ (q : Query). IsReply c.args.self.now.state q c.crosslines.result) (sym c.in-Crosslines.is) (c.crosslines.ensures.reply c.args.self.now.state (c.grid-in-Crosslines.ensures sure))
 
 pub returns-in-Histogram-clause-reply : goal.returns-in-Histogram-clause-reply
 returns-in-Histogram-clause-reply c = λ sure.
-    subst (λ (q : Query). IsReply c.args.self.now.state q c.histogram.result) (sym c.in-Histogram.is) (c.histogram.ensures c.args.self.now.state (c.grid-in-Histogram.ensures sure))
+    subst (λ (q : Query). IsReply c.args.self.now.state q c.histogram.result) (sym c.in-Histogram.is) (c.histogram.ensures.reply c.args.self.now.state (c.grid-in-Histogram.ensures sure))
 
 pub returns-in-Fold-clause-reply : goal.returns-in-Fold-clause-reply
 returns-in-Fold-clause-reply c = λ sure.
@@ -79,7 +79,7 @@ returns-in-Faults-clause-reply c = λ sure.
     let records : AreRecordsOf c.args.self.now.state (records_in c.self.inside) = rw (← c.self.view_is) (c.self.invariant.records before) in
     let counted : AreTriplesOf c.args.self.now.state c.triples.result.now =
     subst (λ (fs : List Facts). Same (tally_of_faults c.triples.result.now) (tally_of keys_of_faults fs)) records (c.triples.ensures (records_in c.self.inside) c.self.invariant.reports) in
-    subst (λ (q : Query). IsReply c.args.self.now.state q c.faults_answer.result) (sym c.in-Faults.is) (c.faults_answer.ensures c.args.self.now.state (sym (ap (λ (t : Session). t.state.volume) c.self.view_is)) records counted)
+    subst (λ (q : Query). IsReply c.args.self.now.state q c.faults_answer.result) (sym c.in-Faults.is) (c.faults_answer.ensures.reply c.args.self.now.state (sym (ap (λ (t : Session). t.state.volume) c.self.view_is)) records counted)
 
 pub returns-in-Problems-clause-reply : goal.returns-in-Problems-clause-reply
 returns-in-Problems-clause-reply c = λ sure.
@@ -91,7 +91,7 @@ pub returns-in-Survey-clause-reply : goal.returns-in-Survey-clause-reply
 returns-in-Survey-clause-reply c = λ sure.
     let before : IsTrue c.self.inside.overlay.agreed = subst (λ (t : Session). IsTrue t.agreed) (sym c.self.view_is) sure in
     let records : AreRecordsOf c.args.self.now.state (records_in c.self.inside) = rw (← c.self.view_is) (c.self.invariant.records before) in
-    subst (λ (q : Query). IsReply c.args.self.now.state q c.survey_answer.result) (sym c.in-Survey.is) (c.survey_answer.ensures c.args.self.now.state records)
+    subst (λ (q : Query). IsReply c.args.self.now.state q c.survey_answer.result) (sym c.in-Survey.is) (c.survey_answer.ensures.reply c.args.self.now.state records)
 
 pub invariant_of-self-in-Problems : goal.invariant_of-self-in-Problems
 invariant_of-self-in-Problems c = held_again c.self.inside c.problems_answer.new.overlay _ c.problems_answer.ensures.seen c.self.invariant

@@ -13,7 +13,7 @@ returns-in-Delete-clause-cut c = λ sure.
 pub returns-in-None-clause-none : goal.returns-in-None-clause-none
 returns-in-None-clause-none c = λ sure.
     let none : c.args.traces.now ≡ [] = is_nothing c.args.traces.now (eqb-true (length c.args.traces.now) 0 (sym c.is_empty.ensures ∙ c.if-is_empty.true)) in
-    rw none (sym c.refusal_of_none.ensures ∙ c.in-None.is)
+    rw none (sym c.refusal_of_none.ensures.refusal ∙ c.in-None.is)
 
 pub returns-in-None-clause-cut : goal.returns-in-None-clause-cut
 returns-in-None-clause-cut c = λ sure.
@@ -23,4 +23,4 @@ returns-in-None-clause-cut c = λ sure.
 pub returns-in-Some-clause-err : goal.returns-in-Some-clause-err
 returns-in-Some-clause-err c = λ sure.
     let none : c.args.traces.now ≡ [] = is_nothing c.args.traces.now (eqb-true (length c.args.traces.now) 0 (sym c.is_empty.ensures ∙ c.if-is_empty.true)) in
-    inr (inr (rw none (sym c.refusal_of_none.ensures ∙ c.in-Some.is)))
+    inr (inr (rw none (sym c.refusal_of_none.ensures.refusal ∙ c.in-Some.is)))

@@ -8,7 +8,7 @@ use Rattle.live_volume.proofs.live_volume.LiveVolume.move_block.Goals as goal
 
 pub exchange_pairs-requires : goal.exchange_pairs-requires
 exchange_pairs-requires c =
-    block_places c.args.self.now.state.volume c.args.a c.args.b c.args.to c.in_ok-pairs.pairs.items (sym c.block_refusal.ensures.refusal ∙ c.in_default.is) c.in_ok-pairs.ensures
+    block_places c.args.self.now.state.volume c.args.a c.args.b c.args.to c.in_ok-pairs.pairs.items (sym c.block_refusal.ensures.refusal ∙ c.in_default.is) c.in_ok-pairs.ensures.puts
 
 pub returns-clause-step : goal.returns-clause-step
 returns-clause-step c =
@@ -17,4 +17,4 @@ returns-clause-step c =
     λ sure.
     rw none
     (subst (λ (s : State). IsAfter old (MoveBlock c.args.a c.args.b c.args.to) s) (sym c.exchange_pairs.ensures.state)
-    (block_moved old c.args.a c.args.b c.args.to c.in_ok-pairs.pairs.items (c.stands.ensures.cut (c.exchange_pairs.ensures.agreed sure)) none c.in_ok-pairs.ensures))
+    (block_moved old c.args.a c.args.b c.args.to c.in_ok-pairs.pairs.items (c.stands.ensures.cut (c.exchange_pairs.ensures.agreed sure)) none c.in_ok-pairs.ensures.puts))

@@ -36,7 +36,7 @@ exchanges_back-requires c =
 
 pub exchange_pairs-requires : goal.exchange_pairs-requires
 exchange_pairs-requires c =
-    subst (λ (pairs : List (ℕ × ℕ)). ArePlaces (count_of c.args.self.now.state.volume) pairs) (sym c.in_ok-forth.ensures)
+    subst (λ (pairs : List (ℕ × ℕ)). ArePlaces (count_of c.args.self.now.state.volume) pairs) (sym c.in_ok-forth.ensures.pairs)
     (places-front 1 (count_of c.args.self.now.state.volume) c.args.traces.now (omega arith) c.requires.rising)
 
 pub put_over-done-requires-clause-some : goal.put_over-done-requires-clause-some
@@ -48,7 +48,7 @@ long c = rw c.as_slice.ensures.value c.in_ok-bytes.ensures.long
 
 -- the traces in front
 front : (c : goal.After-as_slice) → c.exchange_pairs.new.self.state ≡ with_front c.args.self.now.state c.args.traces.now
-front c = front_is c.args.self.now.state c.exchange_pairs.new.self.state c.args.traces.now c.in_ok-forth.forth.items c.exchange_pairs.ensures.state c.in_ok-forth.ensures
+front c = front_is c.args.self.now.state c.exchange_pairs.new.self.state c.args.traces.now c.in_ok-forth.forth.items c.exchange_pairs.ensures.state c.in_ok-forth.ensures.pairs
 
 -- the value's bytes, where each read agreed
 written : (c : goal.After-as_slice) → IsTrue c.args.self.now.agreed
@@ -83,11 +83,11 @@ pub exchange_pairs-requires-2 : goal.exchange_pairs-requires-2
 exchange_pairs-requires-2 c =
     let s : State = c.args.self.now.state in
     let ps : List ℕ = c.args.traces.now in
-    let first = front_is s c.exchange_pairs.new.self.state ps c.in_ok-forth.forth.items c.exchange_pairs.ensures.state c.in_ok-forth.ensures in
+    let first = front_is s c.exchange_pairs.new.self.state ps c.in_ok-forth.forth.items c.exchange_pairs.ensures.state c.in_ok-forth.ensures.pairs in
     let count : count_of c.put_over-done.new.self.state.volume ≡ count_of s.volume =
     over_either c.put_over-done.result _ _ _ 1 c.args.places.now c.as_slice.result.now c.put_over-done.ensures.ok c.put_over-done.ensures.err
     ∙ ap (λ (u : State). count_of u.volume) first ∙ front-count s ps c.requires.rising c.requires.some in
-    subst (λ (pairs : List (ℕ × ℕ)). ArePlaces (count_of c.put_over-done.new.self.state.volume) pairs) (sym c.in_ok-back.ensures)
+    subst (λ (pairs : List (ℕ × ℕ)). ArePlaces (count_of c.put_over-done.new.self.state.volume) pairs) (sym c.in_ok-back.ensures.pairs)
     (subst (λ (n : ℕ). ArePlaces n (pairs_back 1 ps)) (sym count) (places-back 1 (count_of s.volume) ps (omega arith) c.requires.rising))
 
 pub returns-in-Ok-clause-ok : goal.returns-in-Ok-clause-ok
@@ -95,8 +95,8 @@ returns-in-Ok-clause-ok c = λ sure.
     let fit : SFits w128 c.args.value = search rules in
     let s : State = c.args.self.now.state in
     let ps : List ℕ = c.args.traces.now in
-    let first = front_is s c.exchange_pairs.new.self.state ps c.in_ok-forth.forth.items c.exchange_pairs.ensures.state c.in_ok-forth.ensures in
-    let back = back_is c.put_over-done.new.self.state c.exchange_pairs-2.new.self.state ps c.in_ok-back.back.items c.exchange_pairs-2.ensures.state c.in_ok-back.ensures in
+    let first = front_is s c.exchange_pairs.new.self.state ps c.in_ok-forth.forth.items c.exchange_pairs.ensures.state c.in_ok-forth.ensures.pairs in
+    let back = back_is c.put_over-done.new.self.state c.exchange_pairs-2.new.self.state ps c.in_ok-back.back.items c.exchange_pairs-2.ensures.state c.in_ok-back.ensures.pairs in
     let was : IsTrue c.args.self.now.agreed = c.exchange_pairs.ensures.agreed (c.put_over-done.ensures.agreed (c.exchange_pairs-2.ensures.agreed sure)) in
     let none = listed_none (λ p. samples_refusal s.volume.head c.args.first c.args.last (trace_at s.volume p)) ps (c.requires.none was) 0 c.requires.some in
     fill.filled_state s c.args.first c.args.last c.args.value ps c.args.places.now c.as_slice.result.now c.requires.rising c.requires.some c.requires.count (rw c.as_slice.ensures.value c.in_ok-bytes.ensures.long) c.requires.room
@@ -107,8 +107,8 @@ pub returns-in-Ok-clause-same : goal.returns-in-Ok-clause-same
 returns-in-Ok-clause-same c =
     let s : State = c.args.self.now.state in
     let ps : List ℕ = c.args.traces.now in
-    let first = front_is s c.exchange_pairs.new.self.state ps c.in_ok-forth.forth.items c.exchange_pairs.ensures.state c.in_ok-forth.ensures in
-    let back = back_is c.put_over-done.new.self.state c.exchange_pairs-2.new.self.state ps c.in_ok-back.back.items c.exchange_pairs-2.ensures.state c.in_ok-back.ensures in
+    let first = front_is s c.exchange_pairs.new.self.state ps c.in_ok-forth.forth.items c.exchange_pairs.ensures.state c.in_ok-forth.ensures.pairs in
+    let back = back_is c.put_over-done.new.self.state c.exchange_pairs-2.new.self.state ps c.in_ok-back.back.items c.exchange_pairs-2.ensures.state c.in_ok-back.ensures.pairs in
     read_through s c.exchange_pairs.new.self.state c.put_over-done.new.self.state c.exchange_pairs-2.new.self.state _ ps first c.in-Ok.ensures.ok back
 
 pub returns-in-Ok-clause-looks : goal.returns-in-Ok-clause-looks
@@ -119,8 +119,8 @@ pub returns-clause-err : goal.returns-clause-err
 returns-clause-err c =
     let s : State = c.args.self.now.state in
     let ps : List ℕ = c.args.traces.now in
-    let first = front_is s c.exchange_pairs.new.self.state ps c.in_ok-forth.forth.items c.exchange_pairs.ensures.state c.in_ok-forth.ensures in
-    let back = back_is c.put_over-done.new.self.state c.exchange_pairs-2.new.self.state ps c.in_ok-back.back.items c.exchange_pairs-2.ensures.state c.in_ok-back.ensures in
+    let first = front_is s c.exchange_pairs.new.self.state ps c.in_ok-forth.forth.items c.exchange_pairs.ensures.state c.in_ok-forth.ensures.pairs in
+    let back = back_is c.put_over-done.new.self.state c.exchange_pairs-2.new.self.state ps c.in_ok-back.back.items c.exchange_pairs-2.ensures.state c.in_ok-back.ensures.pairs in
     let same = back_again s c.exchange_pairs.new.self.state c.put_over-done.new.self.state c.exchange_pairs-2.new.self.state ps c.requires.rising first c.in-Err.ensures.err.1 back in
     (subst (λ (u : State). IsOfMachine u.on_disk c.in-Err.refusal) first c.in-Err.ensures.err.0, same)
 
@@ -128,8 +128,8 @@ pub returns-clause-same : goal.returns-clause-same
 returns-clause-same c =
     let s : State = c.args.self.now.state in
     let ps : List ℕ = c.args.traces.now in
-    let first = front_is s c.exchange_pairs.new.self.state ps c.in_ok-forth.forth.items c.exchange_pairs.ensures.state c.in_ok-forth.ensures in
-    let back = back_is c.put_over-done.new.self.state c.exchange_pairs-2.new.self.state ps c.in_ok-back.back.items c.exchange_pairs-2.ensures.state c.in_ok-back.ensures in
+    let first = front_is s c.exchange_pairs.new.self.state ps c.in_ok-forth.forth.items c.exchange_pairs.ensures.state c.in_ok-forth.ensures.pairs in
+    let back = back_is c.put_over-done.new.self.state c.exchange_pairs-2.new.self.state ps c.in_ok-back.back.items c.exchange_pairs-2.ensures.state c.in_ok-back.ensures.pairs in
     let same = back_again s c.exchange_pairs.new.self.state c.put_over-done.new.self.state c.exchange_pairs-2.new.self.state ps c.requires.rising first c.in-Err.ensures.err.1 back in
     read_as_before s c.exchange_pairs-2.new.self.state same
 

@@ -28,7 +28,7 @@ exchanges_back-requires c =
 
 pub exchange_pairs-requires : goal.exchange_pairs-requires
 exchange_pairs-requires c =
-    subst (λ (pairs : List (ℕ × ℕ)). ArePlaces (count_of c.args.self.now.state.volume) pairs) (sym c.in_ok-forth.ensures)
+    subst (λ (pairs : List (ℕ × ℕ)). ArePlaces (count_of c.args.self.now.state.volume) pairs) (sym c.in_ok-forth.ensures.pairs)
     (places-front 1 (count_of c.args.self.now.state.volume) c.args.traces.now (omega arith) c.requires.rising)
 
 pub overflow_cast-traces : goal.overflow_cast-traces
@@ -69,7 +69,7 @@ put_each-done-requires-clause-last c =
     let ps : List ℕ = c.args.traces.now in
     let bs : List ℕ = c.args.bytes.now in
     let places : Place × Place = (c.args.first, c.args.second) in
-    let front = front_is s c.exchange_pairs.new.self.state ps c.in_ok-forth.forth.items c.exchange_pairs.ensures.state c.in_ok-forth.ensures in
+    let front = front_is s c.exchange_pairs.new.self.state ps c.in_ok-forth.forth.items c.exchange_pairs.ensures.state c.in_ok-forth.ensures.pairs in
     rw front (parts_last s places ps bs c.requires.rising c.requires.some c.requires.count c.requires.inside)
 
 pub put_each-done-requires-clause-inside : goal.put_each-done-requires-clause-inside
@@ -78,7 +78,7 @@ put_each-done-requires-clause-inside c =
     let ps : List ℕ = c.args.traces.now in
     let bs : List ℕ = c.args.bytes.now in
     let places : Place × Place = (c.args.first, c.args.second) in
-    let front = front_is s c.exchange_pairs.new.self.state ps c.in_ok-forth.forth.items c.exchange_pairs.ensures.state c.in_ok-forth.ensures in
+    let front = front_is s c.exchange_pairs.new.self.state ps c.in_ok-forth.forth.items c.exchange_pairs.ensures.state c.in_ok-forth.ensures.pairs in
     rw (front, c.from.ensures, c.span-at.ensures.start, c.span-at.ensures.size) (parts_inside s places ps bs c.requires.rising c.requires.some c.requires.count c.requires.inside)
 
 pub put_each-done-requires-clause-parts : goal.put_each-done-requires-clause-parts
@@ -87,7 +87,7 @@ put_each-done-requires-clause-parts c = λ sure.
     let ps : List ℕ = c.args.traces.now in
     let bs : List ℕ = c.args.bytes.now in
     let places : Place × Place = (c.args.first, c.args.second) in
-    let front = front_is s c.exchange_pairs.new.self.state ps c.in_ok-forth.forth.items c.exchange_pairs.ensures.state c.in_ok-forth.ensures in
+    let front = front_is s c.exchange_pairs.new.self.state ps c.in_ok-forth.forth.items c.exchange_pairs.ensures.state c.in_ok-forth.ensures.pairs in
     let was : IsTrue c.args.self.now.agreed = c.exchange_pairs.ensures.agreed sure in
     rw (front, c.from.ensures, c.span-at.ensures.start, c.span-at.ensures.size) (header_parts s places ps bs c.requires.rising c.requires.some c.requires.count c.requires.inside (c.stands.ensures.cut was) (c.requires.parts was) (c.requires.none was))
 
@@ -97,7 +97,7 @@ put_each-done-requires-clause-cut c = λ sure.
     let ps : List ℕ = c.args.traces.now in
     let bs : List ℕ = c.args.bytes.now in
     let places : Place × Place = (c.args.first, c.args.second) in
-    let front = front_is s c.exchange_pairs.new.self.state ps c.in_ok-forth.forth.items c.exchange_pairs.ensures.state c.in_ok-forth.ensures in
+    let front = front_is s c.exchange_pairs.new.self.state ps c.in_ok-forth.forth.items c.exchange_pairs.ensures.state c.in_ok-forth.ensures.pairs in
     let was : IsTrue c.args.self.now.agreed = c.exchange_pairs.ensures.agreed sure in
     rw (front, c.from.ensures, c.span-at.ensures.start, c.span-at.ensures.size) (front_cut s places ps bs c.requires.rising c.requires.some c.requires.count c.requires.inside (c.stands.ensures.cut was) (c.requires.parts was) (c.requires.none was))
 
@@ -108,11 +108,11 @@ exchange_pairs-requires-2 c =
     let ps : List ℕ = c.args.traces.now in
     let bs : List ℕ = c.args.bytes.now in
     let places : Place × Place = (c.args.first, c.args.second) in
-    let front = front_is s c.exchange_pairs.new.self.state ps c.in_ok-forth.forth.items c.exchange_pairs.ensures.state c.in_ok-forth.ensures in
+    let front = front_is s c.exchange_pairs.new.self.state ps c.in_ok-forth.forth.items c.exchange_pairs.ensures.state c.in_ok-forth.ensures.pairs in
     let count : count_of c.put_each-done.new.self.state.volume ≡ count_of s.volume =
     counted_either c.put_each-done.result _ _ _ 1 c.from.result c.span-at.result.1 bs c.put_each-done.ensures.ok c.put_each-done.ensures.err
     ∙ ap (λ (u : State). count_of u.volume) front ∙ front-count s ps c.requires.rising c.requires.some in
-    subst (λ (pairs : List (ℕ × ℕ)). ArePlaces (count_of c.put_each-done.new.self.state.volume) pairs) (sym c.in_ok-back.ensures)
+    subst (λ (pairs : List (ℕ × ℕ)). ArePlaces (count_of c.put_each-done.new.self.state.volume) pairs) (sym c.in_ok-back.ensures.pairs)
     (subst (λ (n : ℕ). ArePlaces n (pairs_back 1 ps)) (sym count) (places-back 1 (count_of s.volume) ps (omega arith) c.requires.rising))
 
 pub returns-in-Ok-clause-ok : goal.returns-in-Ok-clause-ok
@@ -121,8 +121,8 @@ returns-in-Ok-clause-ok c = λ sure.
     let ps : List ℕ = c.args.traces.now in
     let bs : List ℕ = c.args.bytes.now in
     let places : Place × Place = (c.args.first, c.args.second) in
-    let front = front_is s c.exchange_pairs.new.self.state ps c.in_ok-forth.forth.items c.exchange_pairs.ensures.state c.in_ok-forth.ensures in
-    let back = back_is c.put_each-done.new.self.state c.exchange_pairs-2.new.self.state ps c.in_ok-back.back.items c.exchange_pairs-2.ensures.state c.in_ok-back.ensures in
+    let front = front_is s c.exchange_pairs.new.self.state ps c.in_ok-forth.forth.items c.exchange_pairs.ensures.state c.in_ok-forth.ensures.pairs in
+    let back = back_is c.put_each-done.new.self.state c.exchange_pairs-2.new.self.state ps c.in_ok-back.back.items c.exchange_pairs-2.ensures.state c.in_ok-back.ensures.pairs in
     let was : IsTrue c.args.self.now.agreed = c.exchange_pairs.ensures.agreed (c.put_each-done.ensures.agreed (c.exchange_pairs-2.ensures.agreed sure)) in
     swapped_state s places ps bs c.requires.rising c.requires.some c.requires.count c.requires.inside (c.stands.ensures.cut was) (c.requires.parts was) (c.requires.none was)
     c.exchange_pairs.new.self.state c.put_each-done.new.self.state c.exchange_pairs-2.new.self.state c.from.result c.span-at.result.1 front c.in-Ok.ensures.ok (c.from.ensures ∙ c.span-at.ensures.start) c.span-at.ensures.size back
@@ -133,8 +133,8 @@ returns-in-Ok-clause-same c =
     let ps : List ℕ = c.args.traces.now in
     let bs : List ℕ = c.args.bytes.now in
     let places : Place × Place = (c.args.first, c.args.second) in
-    let front = front_is s c.exchange_pairs.new.self.state ps c.in_ok-forth.forth.items c.exchange_pairs.ensures.state c.in_ok-forth.ensures in
-    let back = back_is c.put_each-done.new.self.state c.exchange_pairs-2.new.self.state ps c.in_ok-back.back.items c.exchange_pairs-2.ensures.state c.in_ok-back.ensures in
+    let front = front_is s c.exchange_pairs.new.self.state ps c.in_ok-forth.forth.items c.exchange_pairs.ensures.state c.in_ok-forth.ensures.pairs in
+    let back = back_is c.put_each-done.new.self.state c.exchange_pairs-2.new.self.state ps c.in_ok-back.back.items c.exchange_pairs-2.ensures.state c.in_ok-back.ensures.pairs in
     read_through s c.exchange_pairs.new.self.state c.put_each-done.new.self.state c.exchange_pairs-2.new.self.state _ ps front c.in-Ok.ensures.ok back
 
 pub returns-in-Ok-clause-looks : goal.returns-in-Ok-clause-looks
@@ -147,8 +147,8 @@ returns-in-Err-clause-err c =
     let ps : List ℕ = c.args.traces.now in
     let bs : List ℕ = c.args.bytes.now in
     let places : Place × Place = (c.args.first, c.args.second) in
-    let front = front_is s c.exchange_pairs.new.self.state ps c.in_ok-forth.forth.items c.exchange_pairs.ensures.state c.in_ok-forth.ensures in
-    let back = back_is c.put_each-done.new.self.state c.exchange_pairs-2.new.self.state ps c.in_ok-back.back.items c.exchange_pairs-2.ensures.state c.in_ok-back.ensures in
+    let front = front_is s c.exchange_pairs.new.self.state ps c.in_ok-forth.forth.items c.exchange_pairs.ensures.state c.in_ok-forth.ensures.pairs in
+    let back = back_is c.put_each-done.new.self.state c.exchange_pairs-2.new.self.state ps c.in_ok-back.back.items c.exchange_pairs-2.ensures.state c.in_ok-back.ensures.pairs in
     let same = back_again s c.exchange_pairs.new.self.state c.put_each-done.new.self.state c.exchange_pairs-2.new.self.state ps c.requires.rising front c.in-Err.ensures.err.1 back in
     (subst (λ (u : State). IsOfMachine u.on_disk c.in-Err.refusal) front c.in-Err.ensures.err.0, same)
 
@@ -158,8 +158,8 @@ returns-in-Err-clause-same c =
     let ps : List ℕ = c.args.traces.now in
     let bs : List ℕ = c.args.bytes.now in
     let places : Place × Place = (c.args.first, c.args.second) in
-    let front = front_is s c.exchange_pairs.new.self.state ps c.in_ok-forth.forth.items c.exchange_pairs.ensures.state c.in_ok-forth.ensures in
-    let back = back_is c.put_each-done.new.self.state c.exchange_pairs-2.new.self.state ps c.in_ok-back.back.items c.exchange_pairs-2.ensures.state c.in_ok-back.ensures in
+    let front = front_is s c.exchange_pairs.new.self.state ps c.in_ok-forth.forth.items c.exchange_pairs.ensures.state c.in_ok-forth.ensures.pairs in
+    let back = back_is c.put_each-done.new.self.state c.exchange_pairs-2.new.self.state ps c.in_ok-back.back.items c.exchange_pairs-2.ensures.state c.in_ok-back.ensures.pairs in
     let same = back_again s c.exchange_pairs.new.self.state c.put_each-done.new.self.state c.exchange_pairs-2.new.self.state ps c.requires.rising front c.in-Err.ensures.err.1 back in
     read_as_before s c.exchange_pairs-2.new.self.state same
 

@@ -5,6 +5,7 @@ use mir.Val.{SFits}
 use Rattle.field_map.specs.Places.{offset_of}
 use Rattle.trace_record.specs.Told.{tells_record}
 use Rattle.bench_rules.specs.declared.edit.Edit.TheVariants.{Renumber}
+use Rattle.bench_rules.specs.declared.refusal.Refusal.TheVariants.{OutOfMemory}
 use Rattle.bench_rules.specs.Looks.{is_told}
 use Rattle.bench_rules.specs.Places.{place_in_trace}
 use Rattle.bench_rules.specs.State.{State}
@@ -64,3 +65,12 @@ pub returns-clause-looks : goal.returns-clause-looks
 returns-clause-looks c =
     renumber_twice c.args.self.now.state c.args.a c.args.b c.args.field.now c.in-Some-place_in_trace.place c.args.first c.args.step c.args.self.now.looks c.values_refusal.new.self.looks c.count_up.new.self.looks (range c) (place c)
     c.values_refusal.ensures.seen.looks c.count_up.ensures.looks (λ is. (c.count_up.ensures.told (tells c is)).0)
+
+pub returns-in-Some-2-clause-memory : goal.returns-in-Some-2-clause-memory
+returns-in-Some-2-clause-memory c = record {
+  never_falls = omega arith;
+  rose = λ e.
+      let other = rw c.in-Some-2.is at c.in_ok-refusal.ensures.other in
+      let same : c.in-Some-2.refusal ≡ OutOfMemory = cc in
+      absurd (other same);
+}

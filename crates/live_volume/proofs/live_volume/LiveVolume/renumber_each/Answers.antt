@@ -33,7 +33,7 @@ exchanges_back-requires c =
 
 pub exchange_pairs-requires : goal.exchange_pairs-requires
 exchange_pairs-requires c =
-    subst (λ (pairs : List (ℕ × ℕ)). ArePlaces (count_of c.args.self.now.state.volume) pairs) (sym c.in_ok-forth.ensures)
+    subst (λ (pairs : List (ℕ × ℕ)). ArePlaces (count_of c.args.self.now.state.volume) pairs) (sym c.in_ok-forth.ensures.pairs)
     (places-front 1 (count_of c.args.self.now.state.volume) c.args.traces.now (omega arith) c.requires.rising)
 
 pub overflow_cast-traces : goal.overflow_cast-traces
@@ -48,10 +48,10 @@ overflow_cast-traces c =
 pub exchange_pairs-requires-2 : goal.exchange_pairs-requires-2
 exchange_pairs-requires-2 c =
     let s : State = c.args.self.now.state in
-    let front = front_is s c.exchange_pairs.new.self.state c.args.traces.now c.in_ok-forth.forth.items c.exchange_pairs.ensures.state c.in_ok-forth.ensures in
+    let front = front_is s c.exchange_pairs.new.self.state c.args.traces.now c.in_ok-forth.forth.items c.exchange_pairs.ensures.state c.in_ok-forth.ensures.pairs in
     let count : count_of c.renumber-done.new.self.state.volume ≡ count_of s.volume =
     c.renumber-done.ensures.count ∙ ap (λ (u : State). count_of u.volume) front ∙ front-count s c.args.traces.now c.requires.rising c.requires.some in
-    subst (λ (pairs : List (ℕ × ℕ)). ArePlaces (count_of c.renumber-done.new.self.state.volume) pairs) (sym c.in_ok-back.ensures)
+    subst (λ (pairs : List (ℕ × ℕ)). ArePlaces (count_of c.renumber-done.new.self.state.volume) pairs) (sym c.in_ok-back.ensures.pairs)
     (subst (λ (n : ℕ). ArePlaces n (pairs_back 1 c.args.traces.now)) (sym count) (places-back 1 (count_of s.volume) c.args.traces.now (omega arith) c.requires.rising))
 
 pub returns-in-Ok-clause-none : goal.returns-in-Ok-clause-none
@@ -59,7 +59,7 @@ returns-in-Ok-clause-none c = λ sure.
     let first : SFits w128 c.args.first = search rules in
     let step : SFits w128 c.args.step = search rules in
     let s : State = c.args.self.now.state in
-    let front = front_is s c.exchange_pairs.new.self.state c.args.traces.now c.in_ok-forth.forth.items c.exchange_pairs.ensures.state c.in_ok-forth.ensures in
+    let front = front_is s c.exchange_pairs.new.self.state c.args.traces.now c.in_ok-forth.forth.items c.exchange_pairs.ensures.state c.in_ok-forth.ensures.pairs in
     let mid = c.exchange_pairs-2.ensures.agreed sure in
     (renumber_done s c.exchange_pairs.new.self.state c.renumber-done.new.self.state c.args.traces.now c.requires.rising c.requires.some front c.args.field.now c.args.first c.args.step c.in-Ok.field-0
     (c.stands.ensures.cut (c.exchange_pairs.ensures.agreed (c.in-Ok.ensures.agreed mid))) c.requires.field (rw (to_z-of_z w128 c.args.first first, to_z-of_z w128 c.args.step step) at (c.in-Ok.ensures.step mid))).0
@@ -69,8 +69,8 @@ returns-in-Ok-clause-cut c = λ sure.
     let first : SFits w128 c.args.first = search rules in
     let step : SFits w128 c.args.step = search rules in
     let s : State = c.args.self.now.state in
-    let front = front_is s c.exchange_pairs.new.self.state c.args.traces.now c.in_ok-forth.forth.items c.exchange_pairs.ensures.state c.in_ok-forth.ensures in
-    let back = back_is c.renumber-done.new.self.state c.exchange_pairs-2.new.self.state c.args.traces.now c.in_ok-back.back.items c.exchange_pairs-2.ensures.state c.in_ok-back.ensures in
+    let front = front_is s c.exchange_pairs.new.self.state c.args.traces.now c.in_ok-forth.forth.items c.exchange_pairs.ensures.state c.in_ok-forth.ensures.pairs in
+    let back = back_is c.renumber-done.new.self.state c.exchange_pairs-2.new.self.state c.args.traces.now c.in_ok-back.back.items c.exchange_pairs-2.ensures.state c.in_ok-back.ensures.pairs in
     let mid = c.exchange_pairs-2.ensures.agreed sure in
     subst (λ (u : State). IsCut (bytes_after_each s.volume s.fields (Renumber c.args.field.now c.args.first c.args.step) c.args.traces.now) s.reading s.limits u.volume) (sym back)
     (renumber_done s c.exchange_pairs.new.self.state c.renumber-done.new.self.state c.args.traces.now c.requires.rising c.requires.some front c.args.field.now c.args.first c.args.step c.in-Ok.field-0
@@ -81,8 +81,8 @@ returns-in-Ok-clause-fields c = λ sure.
     let first : SFits w128 c.args.first = search rules in
     let step : SFits w128 c.args.step = search rules in
     let s : State = c.args.self.now.state in
-    let front = front_is s c.exchange_pairs.new.self.state c.args.traces.now c.in_ok-forth.forth.items c.exchange_pairs.ensures.state c.in_ok-forth.ensures in
-    let back = back_is c.renumber-done.new.self.state c.exchange_pairs-2.new.self.state c.args.traces.now c.in_ok-back.back.items c.exchange_pairs-2.ensures.state c.in_ok-back.ensures in
+    let front = front_is s c.exchange_pairs.new.self.state c.args.traces.now c.in_ok-forth.forth.items c.exchange_pairs.ensures.state c.in_ok-forth.ensures.pairs in
+    let back = back_is c.renumber-done.new.self.state c.exchange_pairs-2.new.self.state c.args.traces.now c.in_ok-back.back.items c.exchange_pairs-2.ensures.state c.in_ok-back.ensures.pairs in
     let mid = c.exchange_pairs-2.ensures.agreed sure in
     ap (λ (u : State). u.fields) back
     ∙ (renumber_done s c.exchange_pairs.new.self.state c.renumber-done.new.self.state c.args.traces.now c.requires.rising c.requires.some front c.args.field.now c.args.first c.args.step c.in-Ok.field-0
@@ -91,7 +91,7 @@ returns-in-Ok-clause-fields c = λ sure.
 pub returns-in-Ok-clause-looks : goal.returns-in-Ok-clause-looks
 returns-in-Ok-clause-looks c =
     let s : State = c.args.self.now.state in
-    let front = front_is s c.exchange_pairs.new.self.state c.args.traces.now c.in_ok-forth.forth.items c.exchange_pairs.ensures.state c.in_ok-forth.ensures in
+    let front = front_is s c.exchange_pairs.new.self.state c.args.traces.now c.in_ok-forth.forth.items c.exchange_pairs.ensures.state c.in_ok-forth.ensures.pairs in
     risen c.args.self.now.looks c.exchange_pairs.new.self.looks c.renumber-done.new.self.looks c.exchange_pairs-2.new.self.looks _ _ c.exchange_pairs.ensures.looks c.exchange_pairs-2.ensures.looks
     (renumber_looks s c.exchange_pairs.new.self.state c.renumber-done.new.self.state c.args.traces.now c.requires.rising c.requires.some front c.args.field.now c.args.first c.args.step) c.renumber-done.ensures.looks
 
@@ -100,19 +100,19 @@ returns-in-Err-clause-err c = λ sure.
     let first : SFits w128 c.args.first = search rules in
     let step : SFits w128 c.args.step = search rules in
     let s : State = c.args.self.now.state in
-    let front = front_is s c.exchange_pairs.new.self.state c.args.traces.now c.in_ok-forth.forth.items c.exchange_pairs.ensures.state c.in_ok-forth.ensures in
+    let front = front_is s c.exchange_pairs.new.self.state c.args.traces.now c.in_ok-forth.forth.items c.exchange_pairs.ensures.state c.in_ok-forth.ensures.pairs in
     renumber_told s c.exchange_pairs.new.self.state c.renumber-done.new.self.state c.args.traces.now c.requires.rising c.requires.some front c.args.field.now c.args.first c.args.step _ c.in-Err.refusal (rw (to_z-of_z w128 c.args.first first, to_z-of_z w128 c.args.step step) at (c.in-Err.ensures.step (c.exchange_pairs-2.ensures.agreed sure)))
 
 pub returns-in-Err-clause-unchanged : goal.returns-in-Err-clause-unchanged
 returns-in-Err-clause-unchanged c =
     let s : State = c.args.self.now.state in
-    let front = front_is s c.exchange_pairs.new.self.state c.args.traces.now c.in_ok-forth.forth.items c.exchange_pairs.ensures.state c.in_ok-forth.ensures in
-    let back = back_is c.renumber-done.new.self.state c.exchange_pairs-2.new.self.state c.args.traces.now c.in_ok-back.back.items c.exchange_pairs-2.ensures.state c.in_ok-back.ensures in
+    let front = front_is s c.exchange_pairs.new.self.state c.args.traces.now c.in_ok-forth.forth.items c.exchange_pairs.ensures.state c.in_ok-forth.ensures.pairs in
+    let back = back_is c.renumber-done.new.self.state c.exchange_pairs-2.new.self.state c.args.traces.now c.in_ok-back.back.items c.exchange_pairs-2.ensures.state c.in_ok-back.ensures.pairs in
     back_again s c.exchange_pairs.new.self.state c.renumber-done.new.self.state c.exchange_pairs-2.new.self.state c.args.traces.now c.requires.rising front c.in-Err.ensures.err back
 
 pub returns-in-Err-clause-looks : goal.returns-in-Err-clause-looks
 returns-in-Err-clause-looks c =
     let s : State = c.args.self.now.state in
-    let front = front_is s c.exchange_pairs.new.self.state c.args.traces.now c.in_ok-forth.forth.items c.exchange_pairs.ensures.state c.in_ok-forth.ensures in
+    let front = front_is s c.exchange_pairs.new.self.state c.args.traces.now c.in_ok-forth.forth.items c.exchange_pairs.ensures.state c.in_ok-forth.ensures.pairs in
     risen c.args.self.now.looks c.exchange_pairs.new.self.looks c.renumber-done.new.self.looks c.exchange_pairs-2.new.self.looks _ _ c.exchange_pairs.ensures.looks c.exchange_pairs-2.ensures.looks
     (renumber_looks s c.exchange_pairs.new.self.state c.renumber-done.new.self.state c.args.traces.now c.requires.rising c.requires.some front c.args.field.now c.args.first c.args.step) c.renumber-done.ensures.looks

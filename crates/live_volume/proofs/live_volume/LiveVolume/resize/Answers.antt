@@ -3,6 +3,7 @@ use Rattle.std.specs.Prelude.{nat_abs, IfErr, OnErr}
 use Rattle.std.proofs.lemmas.Int.{to_z-of_z}
 use Rattle.std.specs.Int.{w128}
 use mir.Val.{SFits}
+use Rattle.room.proofs.RiseLemmas.{risen}
 use Rattle.field_map.specs.Pairs.{Pairs}
 use Rattle.frame_cut.specs.declared.file_head.Head.{Head}
 use Rattle.frame_cut.specs.Traces.{trace_at, with_trace}
@@ -98,3 +99,6 @@ returns-clause-looks c =
     let there = is_there c.args.self.now.state.volume c.args.p fits.first fits.last in
     let one = rw there at c.resized_bytes.ensures.seen.looks in
     rw there (omega (arith, one.0, c.replace.ensures.looks), omega (arith, one.1, c.replace.ensures.looks))
+
+pub returns-clause-memory : goal.returns-clause-memory
+returns-clause-memory c = risen _ _ c.resized_bytes.new.room _ c.in_ok-bytes.ensures.memory.never_falls c.replace.ensures.memory

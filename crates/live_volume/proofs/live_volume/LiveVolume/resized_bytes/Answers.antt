@@ -1,5 +1,5 @@
-use Rattle.std.proofs.Common.{◌≡◌, ◌∙◌, ap₂, sym, subst, List, ℕ, Option, Some, None, refl, arith, rules, inr}
-use Rattle.std.specs.Prelude.{nat_abs}
+use Rattle.std.proofs.Common.{◌≡◌, ◌∙◌, Bool, true, false, if◌then◌else◌, ap, ap₂, sym, subst, List, ℕ, Option, Some, None, refl, arith, rules, inr}
+use Rattle.std.specs.Prelude.{is_err, nat_abs}
 use Rattle.std.proofs.lemmas.Int.{to_z-of_z}
 use Rattle.std.specs.Int.{w128}
 use mir.Val.{SFits}
@@ -10,6 +10,7 @@ use Rattle.frame_cut.specs.Volume.{Volume}
 use Rattle.trace_view.specs.Shown.{bytes_of, head_of}
 use Rattle.bench_rules.specs.declared.edit.Edit.TheVariants.{Resize}
 use Rattle.bench_rules.specs.declared.refusal.Refusal.{Refusal}
+use Rattle.bench_rules.specs.declared.refusal.Refusal.TheVariants.{DoesNotFit, Frame, OutOfMemory, TooLarge}
 use Rattle.bench_rules.specs.Refused.{count_refusal, first_refusal}
 use Rattle.bench_rules.specs.TraceEdits.{resized}
 use Rattle.bench_rules.proofs.SetLemmas.{both}
@@ -110,3 +111,21 @@ returns-clause-seen c =
     let there = rw c.in-Some.is at c.in_ok-trace.ensures.there in
     let seen = rw (c.in_ok-trace.was, c.in-Some.is) at c.look.follows.holds-at-none in
     rw (← c.self.view_is, there.0 refl) (looked_at c.self.inside c.look.follows.lender-at-none 1 (seen_once c.self.inside.overlay c.look.follows.lender-at-none seen.looked seen.agreed))
+
+-- three checks, of which each refuses for a reason of its own
+others : (a b c : Bool) → (if a then Some DoesNotFit else if b then Some Frame else if c then Some TooLarge else None) ≡ Some OutOfMemory → ⊥
+others true b c e = cc
+others false true c e = cc
+others false false true e = cc
+others false false false e = cc
+
+pub returns-in-Some-count_refusal-clause-memory : goal.returns-in-Some-count_refusal-clause-memory
+returns-in-Some-count_refusal-clause-memory c = record {
+  never_falls = omega arith;
+  rose = λ e.
+      let same : c.in-Some-count_refusal.refusal ≡ OutOfMemory = cc in
+      absurd (others _ _ _ (sym c.count_refusal.ensures ∙ c.in-Some-count_refusal.is ∙ ap Some same));
+}
+
+pub returns-clause-memory : goal.returns-clause-memory
+returns-clause-memory c = record { never_falls = c.resized.ensures.memory.never_falls; rose = λ e. c.resized.ensures.memory.rose (ap is_err e) }

@@ -32,12 +32,12 @@ returns-then-not-fits-clause-step c = λ sure.
 pub put_value-requires-clause-room : goal.put_value-requires-clause-room
 put_value-requires-clause-room c =
     let wide : SFits w128 c.args.value = search rules in
-    rw (to_z-of_z w128 c.args.value wide) (room_there c.args.self.now.state.volume c.args.p c.args.place c.args.value (there c.before.before) c.stands.ensures.headers (free c.before.before) (sym (fit c.before.before) ∙ c.if-not-fits.false))
+    rw (to_z-of_z w128 c.args.value wide) (room_there c.args.self.now.state.volume c.args.p c.args.place c.args.value (there c.before.before.before) c.stands.ensures.headers (free c.before.before.before) (sym (fit c.before.before.before) ∙ c.if-not-fits.false))
 
 pub put_value-requires-clause-none : goal.put_value-requires-clause-none
 put_value-requires-clause-none c =
     let wide : SFits w128 c.args.value = search rules in
-    rw (to_z-of_z w128 c.args.value wide) (λ sure. none_refuses_it c.args.self.now.state c.args.p c.args.place c.args.value (c.stands.ensures.cut sure) (there c.before.before) (free c.before.before) (sym (fit c.before.before) ∙ c.if-not-fits.false))
+    rw (to_z-of_z w128 c.args.value wide) (λ sure. none_refuses_it c.args.self.now.state c.args.p c.args.place c.args.value (c.stands.ensures.cut sure) (there c.before.before.before) (free c.before.before.before) (sym (fit c.before.before.before) ∙ c.if-not-fits.false))
 
 pub returns-clause-step : goal.returns-clause-step
 returns-clause-step c =
@@ -46,9 +46,9 @@ returns-clause-step c =
     let done = rw (to_z-of_z w128 c.args.value wide) at c.put_value.ensures.ok in
     λ sure.
     stepped_unless (is_told s.fields c.args.place) s s c.put_value.new.self.state (Set c.args.p (field.Place c.args.place) c.args.value) c.put_value.result
-    (none_refuses_it s c.args.p c.args.place c.args.value (c.stands.ensures.cut (c.put_value.ensures.agreed sure)) (there c.before.before.before) (free c.before.before.before) (sym (fit c.before.before.before) ∙ c.if-not-fits.false)) refl (record {})
-    (set_looks s c.args.p c.args.place c.args.value (there c.before.before.before)) (on_ok c.put_value.result (λ f. f sure) done) c.put_value.ensures.err (λ told. (c.put_value.ensures.told (both _ _ told).1).1)
+    (none_refuses_it s c.args.p c.args.place c.args.value (c.stands.ensures.cut (c.put_value.ensures.agreed sure)) (there c.before.before.before.before) (free c.before.before.before.before) (sym (fit c.before.before.before.before) ∙ c.if-not-fits.false)) refl (record {})
+    (set_looks s c.args.p c.args.place c.args.value (there c.before.before.before.before)) (on_ok c.put_value.result (λ f. f sure) done) c.put_value.ensures.err (λ told. (c.put_value.ensures.told (both _ _ told).1).1)
 
 pub returns-clause-looks : goal.returns-clause-looks
 returns-clause-looks c =
-    set_once c.args.self.now.state.volume c.args.self.now.state.fields c.args.p c.args.place c.args.self.now.looks c.put_value.new.self.looks (there c.before.before.before) c.put_value.ensures.looks (λ tells. (c.put_value.ensures.told tells).0)
+    set_once c.args.self.now.state.volume c.args.self.now.state.fields c.args.p c.args.place c.args.self.now.looks c.put_value.new.self.looks (there c.before.before.before.before) c.put_value.ensures.looks (λ tells. (c.put_value.ensures.told tells).0)

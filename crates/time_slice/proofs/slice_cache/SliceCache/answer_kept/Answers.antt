@@ -17,7 +17,7 @@ returns-clause-rows c = λ rows kept.
     let es = c.self.inside.cache.entries in
     let here : Some c.in-Some.kept.now ≡ Some (kept_of rows) = c.in-Some.ensures ∙ found c.args.k es ∙ ap (λ (s : KeptSlices). kept_rows c.args.k s.entries) c.self.view_is ∙ kept in
     let same : c.in-Some.kept.now ≡ kept_of rows = cc in
-    c.in_ok-rows.ensures ∙ ap (rows_again (map facts_of c.args.records.now)) same
+    c.in_ok-rows.ensures.rows ∙ ap (rows_again (map facts_of c.args.records.now)) same
 
 pub returns-clause-ok : goal.returns-clause-ok
 returns-clause-ok c = λ rows kept.

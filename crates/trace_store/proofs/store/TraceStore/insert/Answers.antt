@@ -12,11 +12,11 @@ use Rattle.trace_store.proofs.PayloadLemmas.{payloads-same, payloads-inserted}
 use Rattle.trace_store.specs.Stores.{somes, payload_under}
 use Rattle.trace_store.proofs.store.TraceStore.insert.Goals as goal
 
-pub returns-in_err-reserve-clause-err : goal.returns-in_err-reserve-clause-err
-returns-in_err-reserve-clause-err g c =
+pub returns-in_err-told-clause-err : goal.returns-in_err-told-clause-err
+returns-in_err-told-clause-err g c =
     let s = c.args.self.now in
     let room : SameValues s.slots c.reserve.new.self = room-made s.slots c.reserve.new.self c.reserve.new.self.capacity c.reserve.ensures.rest_kept in
-    on_err c.from_residual-in_err-reserve.result _ (traces-same s.loaded.bytes s.order.ids s.slots c.reserve.new.self room)
+    on_err c.from_residual-in_err-told.result _ (traces-same s.loaded.bytes s.order.ids s.slots c.reserve.new.self room)
 
 -- where the order has no room, the slot is taken out again
 
@@ -57,7 +57,7 @@ invariant_of-self-2 g c =
     let s = c.args.self.now in
     let key = c.insert_reserved-id.result in
     let new : Slot g.row.T.Denot = record { layers = c.in_ok-layers.layers; payload = c.args.payload } in
-    let fresh : IsFreshSlot s.loaded s.head new c.args.base = fresh-slot s.loaded s.head new c.args.base c.in_ok-layers.ensures c.requires.inside c.requires.whole in
+    let fresh : IsFreshSlot s.loaded s.head new c.args.base = fresh-slot s.loaded s.head new c.args.base c.in_ok-layers.ensures.base c.requires.inside c.requires.whole in
     let room : SameValues s.slots c.reserve.new.self = room-made s.slots c.reserve.new.self c.reserve.new.self.capacity c.reserve.ensures.rest_kept in
     let held : AreHeld s.loaded s.head s.order.ids c.reserve.new.self = held-same s.loaded s.head s.order.ids s.slots c.reserve.new.self s.sound.held room in
     let absent : times key s.order.ids ≡ 0 = vacant-absent s.loaded s.head s.order.ids c.reserve.new.self key held c.insert_reserved-id.ensures.was_vacant in
@@ -78,7 +78,7 @@ returns-clause-ok g c =
     let s = c.args.self.now in
     let key = c.insert_reserved-id.result in
     let new : Slot g.row.T.Denot = record { layers = c.in_ok-layers.layers; payload = c.args.payload } in
-    let fresh : IsFreshSlot s.loaded s.head new c.args.base = fresh-slot s.loaded s.head new c.args.base c.in_ok-layers.ensures c.requires.inside c.requires.whole in
+    let fresh : IsFreshSlot s.loaded s.head new c.args.base = fresh-slot s.loaded s.head new c.args.base c.in_ok-layers.ensures.base c.requires.inside c.requires.whole in
     let room : SameValues s.slots c.reserve.new.self = room-made s.slots c.reserve.new.self c.reserve.new.self.capacity c.reserve.ensures.rest_kept in
     let held : AreHeld s.loaded s.head s.order.ids c.reserve.new.self = held-same s.loaded s.head s.order.ids s.slots c.reserve.new.self s.sound.held room in
     let absent : times key s.order.ids ≡ 0 = vacant-absent s.loaded s.head s.order.ids c.reserve.new.self key held c.insert_reserved-id.ensures.was_vacant in
@@ -87,11 +87,11 @@ returns-clause-ok g c =
     ∙ (ap (λ (ts : List (List ℕ)). insert ts (c.args.p - 1) (bytes_in s.loaded.bytes new)) (traces-same s.loaded.bytes s.order.ids s.slots c.reserve.new.self room)
     ∙ ap (λ (t : List ℕ). insert (map (bytes_under s.loaded.bytes s.slots) s.order.ids) (c.args.p - 1) t) fresh.shows))
 
-pub returns-in_err-reserve-clause-payloads : goal.returns-in_err-reserve-clause-payloads
-returns-in_err-reserve-clause-payloads g c =
+pub returns-in_err-told-clause-payloads : goal.returns-in_err-told-clause-payloads
+returns-in_err-told-clause-payloads g c =
     let s = c.args.self.now in
     let room : SameValues s.slots c.reserve.new.self = room-made s.slots c.reserve.new.self c.reserve.new.self.capacity c.reserve.ensures.rest_kept in
-    on_err c.from_residual-in_err-reserve.result _ (ap (λ (os : List (Option g.row.T.Denot)). somes os) (payloads-same s.order.ids s.slots c.reserve.new.self room))
+    on_err c.from_residual-in_err-told.result _ (ap (λ (os : List (Option g.row.T.Denot)). somes os) (payloads-same s.order.ids s.slots c.reserve.new.self room))
 
 pub returns-then-is_err-clause-payloads : goal.returns-then-is_err-clause-payloads
 returns-then-is_err-clause-payloads g c =

@@ -14,10 +14,12 @@ runs_with-requires-clause-inside g c =
 pub loop-k-preserved : goal.loop-k-preserved
 loop-k-preserved g c =
     let place : c.args.a + c.loop-k.k - 1 ≡ c.args.a - 1 + c.loop-k.k = omega (arith, c.requires.first) in
+    let pushed = rw c.in_ok-told_back.ensures.ok at c.push.ensures.items in
     record {
-      count = omega (arith, ap (λ (xs : List (List Run)). length xs) c.in_ok-push.ensures.items, length-append c.loop-k.lists.items (c.in_ok-runs.runs ∷ []), c.loop-k.invariant.count);
-      runs = rw c.in_ok-push.ensures.items
-          (runs-more (bases_of c.args.self.now) (traces_of c.args.self.now) (c.args.a - 1) c.args.at c.args.size c.args.bytes.now c.loop-k.k (c.args.a + c.loop-k.k - 1) c.part-part.result.now c.loop-k.lists.items c.in_ok-runs.runs c.loop-k.invariant.runs place c.part-part.ensures.part c.in_ok-runs.ensures);
+      memory = grind arith;
+      count = omega (arith, ap (λ (xs : List (List Run)). length xs) pushed, length-append c.loop-k.lists.items (c.in_ok-runs.runs ∷ []), c.loop-k.invariant.count);
+      runs = rw pushed
+          (runs-more (bases_of c.args.self.now) (traces_of c.args.self.now) (c.args.a - 1) c.args.at c.args.size c.args.bytes.now c.loop-k.k (c.args.a + c.loop-k.k - 1) c.part-part.result.now c.loop-k.lists.items c.in_ok-runs.runs c.loop-k.invariant.runs place c.part-part.ensures.part c.in_ok-runs.ensures.runs);
     }
 
 pub returns-clause-runs : goal.returns-clause-runs

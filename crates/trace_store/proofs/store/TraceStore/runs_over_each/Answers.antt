@@ -11,9 +11,13 @@ runs_with-requires-clause-inside g c =
 pub loop-k-preserved : goal.loop-k-preserved
 loop-k-preserved g c =
     let place : c.args.a + c.loop-k.k - 1 ≡ c.args.a - 1 + c.loop-k.k = omega (arith, c.requires.first) in
-    rw c.in_ok-push.ensures.items
-    (over-more (bases_of c.args.self.now) (traces_of c.args.self.now) (c.args.a - 1) c.args.places.now c.args.bytes.now c.loop-k.k (c.args.a + c.loop-k.k - 1) _ c.loop-k.lists.items c.in_ok-runs.runs c.loop-k.invariant c.loop-k-test.true place refl c.in_ok-runs.ensures)
+    let pushed = rw c.in_ok-told_back.ensures.ok at c.push.ensures.items in
+    record {
+      memory = grind arith;
+      runs = rw pushed
+          (over-more (bases_of c.args.self.now) (traces_of c.args.self.now) (c.args.a - 1) c.args.places.now c.args.bytes.now c.loop-k.k (c.args.a + c.loop-k.k - 1) _ c.loop-k.lists.items c.in_ok-runs.runs c.loop-k.invariant.runs c.loop-k-test.true place refl c.in_ok-runs.ensures.runs);
+    }
 
-pub returns : goal.returns
-returns g c =
-    over-all (bases_of c.args.self.now) (traces_of c.args.self.now) (c.args.a - 1) c.args.places.now c.args.bytes.now c.loop-k.k c.loop-k.lists.items c.loop-k.invariant (omega (arith, c.loop-k-test.false))
+pub returns-clause-runs : goal.returns-clause-runs
+returns-clause-runs g c =
+    over-all (bases_of c.args.self.now) (traces_of c.args.self.now) (c.args.a - 1) c.args.places.now c.args.bytes.now c.loop-k.k c.loop-k.lists.items c.loop-k.invariant.runs (omega (arith, c.loop-k-test.false))

@@ -29,8 +29,8 @@ unreachable-requires g c =
     let s = c.args.self.now in
     slot-missed s.loaded s.head s.order.ids s.slots c.args.p c.id-id.result s.sound.held c.id-id.ensures (sym c.in-None.ensures)
 
-pub returns : goal.returns
-returns g c =
+pub returns-clause-runs : goal.returns-clause-runs
+returns-clause-runs g c =
     let s = c.args.self.now in
     let here = c.in-Some.slot.now in
     let slot = slot-found s.loaded s.head s.order.ids s.slots c.args.p c.id-id.result here s.sound.held c.id-id.ensures (sym c.in-Some.ensures) in

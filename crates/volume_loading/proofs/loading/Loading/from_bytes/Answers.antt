@@ -24,8 +24,8 @@ pub returns-clause-cut : goal.returns-clause-cut
 returns-clause-cut g c =
     cut_again c.args.bytes.items c.args.reading c.args.limits _ _ _ _ c.in_ok-cut.cut.0 c.in_ok-cut.cut.1 c.in_ok-cut.cut.2 c.in-Ok.ensures.loaded (c.in-Ok.ensures.head ∙ c.head-head.ensures) c.into_extents-extents.ensures c.tail-tail.ensures (rw c.as_slice.ensures.value at c.in_ok-cut.ensures.ok)
 
-pub returns-clause-memory : goal.returns-clause-memory
-returns-clause-memory g c = ap is_on_disk c.in-Ok.ensures.standing
+pub returns-clause-in_memory : goal.returns-clause-in_memory
+returns-clause-in_memory g c = ap is_on_disk c.in-Ok.ensures.standing
 
 pub returns-clause-agreed : goal.returns-clause-agreed
 returns-clause-agreed g c = ap is_sure c.in-Ok.ensures.standing

@@ -19,5 +19,5 @@ invariant_of-self-2 c =
     let numbers : c.resize-2.new.self.items ≡ ns ++ replicate c.args.by 0
     = resized ns size (vec_len c.try_reserve.new.self) c.args.by (rw (ok, was) at c.resize-2.ensures.items) was_long (omega arith) in
     let counted : c.resize.new.self.items ≡ held ++ replicate blocks 0
-    = resized held (size / 64 + 1) (vec_len c.self.inside.held) blocks c.in_ok-resize.ensures.items held_long (omega arith) in
+    = resized held (size / 64 + 1) (vec_len c.self.inside.held) blocks (rw c.in_ok-told-2.ensures.ok at c.resize.ensures.items) held_long (omega arith) in
     rw (numbers, counted) (IsSummary-grown ns held c.args.by blocks c.self.invariant (omega arith) (omega arith))

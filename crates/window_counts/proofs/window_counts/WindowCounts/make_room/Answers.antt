@@ -3,8 +3,8 @@ use Rattle.window_counts.specs.Window.{entries}
 use Rattle.window_counts.proofs.PlaceLemmas.{entries-grown}
 use Rattle.window_counts.proofs.window_counts.WindowCounts.make_room.Goals as goal
 
-pub returns-then-is_ok : goal.returns-then-is_ok
-returns-then-is_ok g c =
+pub returns-then-is_ok-clause-same : goal.returns-then-is_ok-clause-same
+returns-then-is_ok-clause-same g c =
     let w = c.self.inside.window in
     let new = c.grow-then-is_ok.new.self in
     let slots = c.self.inside.slots in

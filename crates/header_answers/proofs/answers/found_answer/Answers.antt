@@ -1,0 +1,5 @@
+use Rattle.header_answers.proofs.RangeLemmas.{range_rises}
+use Rattle.header_answers.proofs.answers.found_answer.Goals as goal
+
+pub returns-in-Some-clause-memory : goal.returns-in-Some-clause-memory
+returns-in-Some-clause-memory c = range_rises c.args.overlay.now.volume c.args.a c.args.b c.in-Some.fault _ c.in-Some.ensures.told

@@ -1,5 +1,5 @@
 #!/usr/bin/env bash
-# Where memory is counted: a room is made where a run calls what takes one and nowhere else, so that what is told of want of memory is of its own refusals; and what
+# Where memory is counted: a room is made where a run begins and nowhere else, so that what a run tells of want of memory is of its own refusals; and what
 # the library says of a refused growth is handled by the room alone, but in the crates named here, whose calls give up without a room.
 set -u
 cd "$(dirname "$0")/.."
@@ -13,11 +13,7 @@ only() {
 
 only '(^|[^a-z_:])Room::new\(' 'crates/room/src/lib.rt
 crates/base_file/src/held.rt
-crates/script_run/src/on_disk.rt
-crates/script_run/src/running.rt
-crates/script_run/src/saving.rt
-crates/script_run/src/script.rt
-crates/script_run/src/whole_run.rt'
+crates/segywb/src/program.rt'
 
 only 'Alloc(Error|Failed)' 'crates/room/src/heap.rt
 crates/command_line/src/parsing.rt
@@ -26,5 +22,5 @@ crates/journal_save/src/open_fault.rt
 crates/safe_save/src/beside.rt
 crates/script_run/src/session_repairs.rt'
 
-[ "$status" != 0 ] || echo 'rooms: each is made by a run, and hears of each refused growth but those of saves'
+[ "$status" != 0 ] || echo 'rooms: each is made where a run begins, and hears of each refused growth but those of saves'
 exit "$status"

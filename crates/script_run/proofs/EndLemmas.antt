@@ -22,7 +22,7 @@ use Rattle.script_words.specs.Words.{script_lines}
 use Rattle.script_run.specs.FromScratch.{ScratchSteps, saved}
 use Rattle.script_run.specs.Runs.{LineStep, LineSteps, RunsWhole, StopsAt, BreaksOff}
 use Rattle.script_run.proofs.ScratchLemmas.{scratch, stays_cut, line_keeps}
-use Rattle.script_run.specs.Ends.{Devices, RefusesLoad, RefusesScript, RunsThrough, Stops, LosesAnswer, IsTold, Runs}
+use Rattle.script_run.specs.Ends.{Devices, WantsMemory, RefusesLoad, RefusesScript, RunsThrough, Stops, LosesAnswer, IsTold, Runs}
 
 -- a load into memory is one of a volume that stands where it stands
 pub loads_in_memory : (old new : Device) (reading : Reading) (limits : Limits) (start : State) → start.on_disk ≡ false → Loads old new reading limits false start
@@ -68,7 +68,7 @@ module _ (stay : StepsStayCut) (on_disk : Bool) (options : Options) (old new : D
       → ScratchSteps LineStep options.reading options.limits on_disk (saved start) lines printed (saved end)
   as_from_scratch lines printed steps = scratch LineStep (line_keeps stay) options.reading options.limits on_disk start end lines printed loaded.cut loaded.reading_is loaded.limits_are loaded.place_is steps
 
-  unfoldable pub runs_through : (refused : ℕ) → (text : List ℕ) × RunsWhole start script options.stop text refused end × Takes old.answers new.answers text
+  unfoldable pub runs_through : (refused : ℕ) → (text : List ℕ) × RunsWhole (WantsMemory old new) start script options.stop text refused end × Takes old.answers new.answers text
       → RunsThrough on_disk options old new refused end
   runs_through refused (text, lines, printed) =
       record {
@@ -83,7 +83,7 @@ module _ (stay : StepsStayCut) (on_disk : Bool) (options : Options) (old new : D
       }
 
   pub stops : (line : ℕ) → new.out ≡ old.out
-      → (text : List ℕ) × StopsAt start script line text end × Takes old.answers new.answers text × IsTrue options.stop → Stops on_disk options old new line
+      → (text : List ℕ) × StopsAt (WantsMemory old new) start script line text end × Takes old.answers new.answers text × IsTrue options.stop → Stops on_disk options old new line
   stops line unsaved (text, lines, printed, asked) = record {
     start = start;
     end = end;
@@ -98,7 +98,7 @@ module _ (stay : StepsStayCut) (on_disk : Bool) (options : Options) (old new : D
   }
 
   pub loses_answer : (written : ℕ) → new.out ≡ old.out
-      → (text : List ℕ) × (taken : ℕ) × (written ≡ count_in_64_bits taken) × BreaksOff start script options.stop taken text end × TakesPart old.answers new.answers text taken
+      → (text : List ℕ) × (taken : ℕ) × (written ≡ count_in_64_bits taken) × BreaksOff (WantsMemory old new) start script options.stop taken text end × TakesPart old.answers new.answers text taken
       → (taken : ℕ) × (written ≡ count_in_64_bits taken) × LosesAnswer on_disk options old new taken
   loses_answer written unsaved (text, taken, told, lines, printed) = (
     taken,

@@ -1,6 +1,7 @@
 -- A script run over a volume, line by line.
 use Rattle.std.specs.Prelude.{◌≡◌, ◌⊎◌, ℕ, Bool, true, false, if◌then◌else◌, IsTrue, ◌+◌, ◌<◌, ◌≤◌, List, [], ◌∷◌, ◌++◌, length, take, flat_map, count_by, Option, Some, None, Result, Ok, Err, IfOk, ⊤}
 use Rattle.bench_rules.specs.declared.refusal.Refusal.{Refusal}
+use Rattle.bench_rules.specs.declared.refusal.Refusal.TheVariants as refusals_of
 use Rattle.bench_rules.specs.State.{State}
 use Rattle.bench_rules.specs.Steps.{Step, told_of}
 use Rattle.bench_rules.specs.Answer.{Reply, IsReply}
@@ -18,6 +19,7 @@ use Rattle.shown_floats.specs.Shows.{Shows, IsList, IsOther}
 use Rattle.script_words.specs.declared.command.Command.{Command}
 use Rattle.script_words.specs.declared.command.Command.TheVariants.{Apply, Ask}
 use Rattle.script_words.specs.declared.line_fault.LineFault.{LineFault}
+use Rattle.script_words.specs.declared.line_fault.LineFault.TheVariants as line_faults
 use Rattle.script_words.specs.Words.{script_lines}
 use Rattle.script_words.specs.Commands.{IsParsed}
 use Rattle.bench_rules.specs.declared.answer.Answer.TheVariants as answers
@@ -109,6 +111,36 @@ abbrev pub LineStep : State → List ℕ → Printed → State → Type 0
 LineStep old line printed new =
     (read : Result (Option Command) LineFault) × IsParsed (float_format old.volume.head.format) (count_of old.volume) line read × ReadStep old read printed new
 
+-- a query that is answered, and is no section, some of whose samples may not be read, is refused in the end: there was no memory for the words of floats
+abbrev pub LacksWords : Query → Reply → Printed → Type 0
+LacksWords query (Ok answer) printed = (asks_for_section query ≡ false) × IsTrue printed.is_refusal
+LacksWords query (Err fault) printed = ⊥
+
+-- ---- want of memory
+
+module _ (Wanted : Type 0) where
+  -- the same command, which tells of want of memory, its own or that for the words of floats, only where this holds
+  abbrev pub CommandStepIn : State → Command → Printed → State → Type 0
+  CommandStepIn old (Apply edit) printed new =
+      (reply : Result (Option ℕ) Refusal) × (reply ≡ Err refusals_of.OutOfMemory → Wanted)
+      × Step old edit reply new × (printed ≡ edit_reply reply) × IfOk reply (λ told. told ≡ told_of old edit)
+  CommandStepIn old (Ask query) printed new =
+      (reply : Reply) × (reply ≡ Err OutOfMemory → Wanted) × (LacksWords query reply printed → Wanted)
+      × IsReply old query reply × IsPrintedIn old query reply printed × (new ≡ old)
+
+  -- a line that was read, with what it prints
+  abbrev pub ReadStepIn : State → Result (Option Command) LineFault → Printed → State → Type 0
+  ReadStepIn old (Ok None) printed new = (printed ≡ nothing) × (new ≡ old)
+  ReadStepIn old (Ok (Some command)) printed new = CommandStepIn old command printed new
+  ReadStepIn old (Err fault) printed new = (printed ≡ fault_reply fault) × (new ≡ old) × (fault ≡ line_faults.OutOfMemory → Wanted)
+
+  -- a line with what it prints, E11 only where this holds
+  abbrev pub LineStepIn : State → List ℕ → Printed → State → Type 0
+  LineStepIn old line printed new =
+      (read : Result (Option Command) LineFault) × IsParsed (float_format old.volume.head.format) (count_of old.volume) line read × ReadStepIn old read printed new
+
+-- ---- lines
+
 module _ {S L : Type 0} where
   -- lines one after another, each by such a step, with what each prints
   abbrev pub StepsBy : (S → L → Printed → S → Type 0) → S → List L → List Printed → S → Type 0
@@ -129,29 +161,36 @@ printed_text ps = flat_map (λ p. p.text) ps
 abbrev pub refusals : List Printed → ℕ
 refusals ps = count_by (λ p. p.is_refusal) ps
 
--- the whole script is run: what it prints, and how many of its lines are refused; none, if a refusal stops it
-pub record RunsWhole (old : State) (script : List ℕ) (stop : Bool) (text : List ℕ) (number : ℕ) (new : State) : Type 0 where
+-- the lines one after another, with what each prints, E11 only where this holds
+abbrev pub LineStepsIn : Type 0 → State → List (List ℕ) → List Printed → State → Type 0
+LineStepsIn Wanted old lines printed new = StepsBy (LineStepIn Wanted) old lines printed new
+
+-- the whole script is run: what it prints, E11 only where this holds, and how many of its lines are refused; none, if a refusal stops it
+pub record RunsWhole (Wanted : Type 0) (old : State) (script : List ℕ) (stop : Bool) (text : List ℕ) (number : ℕ) (new : State) : Type 0 where
   pub printed : List Printed
   pub steps : LineSteps old (script_lines script) printed new
+  pub memory : LineStepsIn Wanted old (script_lines script) printed new
   pub text_is : text ≡ printed_text printed
   pub number_is : number ≡ refusals printed
   pub goes_on : IsTrue stop → number ≡ 0
 
--- the script is run up to this line, counted from 1, which is the first that is refused
-pub record StopsAt (old : State) (script : List ℕ) (line : ℕ) (text : List ℕ) (new : State) : Type 0 where
+-- the script is run up to this line, counted from 1, which is the first that is refused; E11 only where this holds
+pub record StopsAt (Wanted : Type 0) (old : State) (script : List ℕ) (line : ℕ) (text : List ℕ) (new : State) : Type 0 where
   pub before : List Printed
   pub last : Printed
   pub steps : LineSteps old (take line (script_lines script)) (before ++ last ∷ []) new
+  pub memory : LineStepsIn Wanted old (take line (script_lines script)) (before ++ last ∷ []) new
   pub line_is : line ≡ length before + 1
   pub text_is : text ≡ printed_text (before ++ last ∷ [])
   pub none_before : refusals before ≡ 0
   pub refused_last : IsTrue last.is_refusal
 
--- the script is run up to a line whose text the writer does not take whole: it takes `written` bytes of what is printed
-pub record BreaksOff (old : State) (script : List ℕ) (stop : Bool) (written : ℕ) (text : List ℕ) (new : State) : Type 0 where
+-- the script is run up to a line whose text the writer does not take whole: it takes `written` bytes of what is printed; E11 only where this holds
+pub record BreaksOff (Wanted : Type 0) (old : State) (script : List ℕ) (stop : Bool) (written : ℕ) (text : List ℕ) (new : State) : Type 0 where
   pub before : List Printed
   pub last : Printed
   pub steps : LineSteps old (take (length before + 1) (script_lines script)) (before ++ last ∷ []) new
+  pub memory : LineStepsIn Wanted old (take (length before + 1) (script_lines script)) (before ++ last ∷ []) new
   pub text_is : text ≡ printed_text (before ++ last ∷ [])
   pub goes_on : IsTrue stop → refusals before ≡ 0
   pub taken_before : length (printed_text before) ≤ written

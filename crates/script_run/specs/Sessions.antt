@@ -1,6 +1,8 @@
 -- A session: the lines of a reader are answered one by one, with an empty line behind each answer.
 use Rattle.std.specs.Prelude.{◌≡◌, ◌⊎◌, ℕ, ◌<◌, ◌≤◌, ◌+◌, ⊤, Bool, true, false, IsTrue, not, ◌&&◌, List, [], ◌∷◌, ◌++◌, length, take, codes, Option, IfSome, Result, Ok, Err}
+use Rattle.room.specs.Refusals.{WasRefused}
 use Rattle.frame_cut.specs.declared.load_fault.LoadFault.{LoadFault}
+use Rattle.frame_cut.specs.declared.load_fault.LoadFault.TheVariants as load_faults
 use Rattle.frame_cut.specs.Cuts.{IsCut}
 use Rattle.frame_cut.specs.Volume.{bytes_of}
 use Rattle.bench_rules.specs.State.{State}
@@ -25,7 +27,7 @@ use Rattle.script_text.specs.declared.run_end.RunEnd.TheVariants as ends
 use Rattle.script_run.specs.Loading.{Loads, IsLoadRefused}
 use Rattle.script_run.specs.Input.{SessionLine, session_lines, any_cut_off, HasTooMany}
 use Rattle.script_run.specs.Telling.{followed_by}
-use Rattle.script_run.specs.Runs.{LineStep, StepsBy, printed_text, refusals}
+use Rattle.script_run.specs.Runs.{LineStep, LineStepIn, StepsBy, printed_text, refusals}
 use Rattle.script_run.specs.FromScratch.{ScratchSteps, saved}
 
 -- ---- a save
@@ -76,6 +78,33 @@ SessionStep old line printed new = (answer : Printed) × AnswerStep old line ans
 abbrev pub SessionSteps : Standing → List SessionLine → List Printed → Standing → Type 0
 SessionSteps old lines printed new = StepsBy SessionStep old lines printed new
 
+module _ (Wanted : Type 0) where
+  -- the same line, E11 only where this holds
+  abbrev pub WordStepIn : SessionWord → Standing → List ℕ → Printed → Standing → Type 0
+  WordStepIn Save old line printed new = SaveStep old printed new
+  WordStepIn SaveWithMore old line printed new = (printed ≡ fault_reply Words) × (new ≡ old)
+  WordStepIn Other old line printed new = LineStepIn Wanted old.state line printed new.state × (new.out ≡ old.out)
+
+  -- a line that is not too long
+  abbrev pub EndedStepIn : Bool → Standing → List ℕ → Printed → Standing → Type 0
+  EndedStepIn false old text printed new = (printed ≡ session_reply (Err CutOff)) × (new ≡ old)
+  EndedStepIn true old text printed new =
+      WordStepIn (session_word_of (without_return text)) old (without_return text) printed new ⊎ ((printed ≡ fault_reply OutOfMemory) × (new ≡ old) × Wanted)
+
+  -- a line with its answer
+  abbrev pub AnswerStepIn : Standing → SessionLine → Printed → Standing → Type 0
+  AnswerStepIn old line printed new =
+      ((16777216 < length line.text) × (printed ≡ fault_reply TooLarge) × (new ≡ old))
+      ⊎ ((length line.text ≤ 16777216) × EndedStepIn line.has_end old line.text printed new)
+
+  -- a line with what is printed for it
+  abbrev pub SessionStepIn : Standing → SessionLine → Printed → Standing → Type 0
+  SessionStepIn old line printed new = (answer : Printed) × AnswerStepIn old line answer new × (printed ≡ with_empty_line answer)
+
+-- the lines one after another, E11 only where this holds
+abbrev pub SessionStepsIn : Type 0 → Standing → List SessionLine → List Printed → Standing → Type 0
+SessionStepsIn Wanted old lines printed new = StepsBy (SessionStepIn Wanted) old lines printed new
+
 -- a line with what is printed for it, wherever the saves go
 abbrev pub VolumeStep : State → SessionLine → Printed → State → Type 0
 VolumeStep old line printed new = (before : Place) × (after : Place) × SessionStep (standing old before) line printed (standing new after)
@@ -103,30 +132,37 @@ AllLines known lines = IfSome known (λ bytes. session_lines bytes ≡ lines)
 
 -- ---- the ends
 
--- the readers of the volume and of the lines, the writer of the answers, and where the saves go: OUT, or FILE itself
+-- the readers of the volume and of the lines, the writer of the answers, where the saves go: OUT, or FILE itself, and how often memory was refused
 pub record SessionDevices : Type 0 where
   pub reader : Device
   pub script : Device
   pub answers : Device
   pub out : Place
+  pub refusals : ℕ
 
 -- these, of a session
-abbrev pub session_devices : Device → Device → Device → Place → SessionDevices
-session_devices reader script answers out = record { reader = reader; script = script; answers = answers; out = out }
+abbrev pub session_devices : Device → Device → Device → Place → ℕ → SessionDevices
+session_devices reader script answers out refusals = record { reader = reader; script = script; answers = answers; out = out; refusals = refusals }
 
--- the volume is refused: no line is read, and OUT is as it was
+-- memory was refused in a session
+abbrev pub SessionWants : SessionDevices → SessionDevices → Type 0
+SessionWants old new = WasRefused old.refusals new.refusals
+
+-- the volume is refused, for want of memory only where it was refused: no line is read, and OUT is as it was
 pub record RefusesSession (options : Options) (old new : SessionDevices) (fault : LoadFault) : Type 0 where
   pub refused : IsLoadRefused old.reader new.reader options.reading options.limits fault
   pub unread : new.script ≡ old.script
   pub unsaved : new.out ≡ old.out
+  pub memory : fault ≡ load_faults.OutOfMemory → SessionWants old new
 
--- the volume is loaded, and the first lines of the reader are answered; what is held then is the cut of its own bytes
+-- the volume is loaded, and the first lines of the reader are answered, E11 only where memory was refused; what is held then is the cut of its own bytes
 pub record AnswersLines (on_disk : Bool) (options : Options) (old new : SessionDevices) (lines : List SessionLine) (printed : List Printed) (end : Standing) : Type 0 where
   pub start : State
   pub loaded : Loads old.reader new.reader options.reading options.limits on_disk start
   pub follows : Follows old.out (bytes_of start.volume)
   pub given : FirstLines old.script.bytes lines
   pub steps : SessionSteps (standing start old.out) lines printed end
+  pub memory : SessionStepsIn (SessionWants old new) (standing start old.out) lines printed end
   pub from_scratch : ScratchSteps VolumeStep options.reading options.limits on_disk (saved start) lines printed (saved end.state)
   pub cut : IsCut (bytes_of end.state.volume) options.reading options.limits end.state.volume
   pub full : AreAnswers printed

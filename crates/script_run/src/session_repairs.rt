@@ -15,6 +15,7 @@ use bench_core::Bench;
 use edit_pieces::{Attempt, FurtherEdits, Repaired, VolumeEdits, Watcher, are_within, heads_of};
 use journal_codes::{Head, PIECE_ROOM};
 use journal_save::{Disk, SaveError};
+use room::Room;
 use script_text::SessionFault;
 use std::alloc::{AllocError, Global};
 
@@ -90,15 +91,15 @@ impl<D: Disk, W: Watcher<D>> Saves for InPlace<D, W> {
 
     fn follows(&self) {}
 
-    fn save(&mut self, alloc: Global, bench: &mut Bench) -> Result<u64, SessionFault> {
+    fn save(&mut self, room: &mut Room, bench: &mut Bench) -> Result<u64, SessionFault> {
         if self.is_at_end {
             return Err(SessionFault::NoOut);
         }
-        self.repair(alloc, bench)
+        self.repair(room.alloc(), bench)
     }
 
-    fn save_at_end(&mut self, alloc: Global, bench: &mut Bench) -> Result<u64, SessionFault> {
-        self.repair(alloc, bench)
+    fn save_at_end(&mut self, room: &mut Room, bench: &mut Bench) -> Result<u64, SessionFault> {
+        self.repair(room.alloc(), bench)
     }
 }
 

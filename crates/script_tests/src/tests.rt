@@ -78,7 +78,7 @@ fn run_readers(alloc: Global, file: StepReader, script: StepReader, options: Opt
     let mut answers = Sink::new(Vec::new(alloc));
     let mut out = Sink::new(Vec::new(alloc));
     let end = run(
-        alloc,
+        &mut Room::new(alloc),
         &mut reader,
         &mut lines,
         &mut answers,
@@ -136,7 +136,7 @@ fn run_into(
     let mut answers = Sink::new(StepWriter::new(printed, 3, answers_limit));
     let mut out = Sink::new(StepWriter::new(saved, 7, out_limit));
     let end = run(
-        alloc,
+        &mut Room::new(alloc),
         &mut reader,
         &mut lines,
         &mut answers,

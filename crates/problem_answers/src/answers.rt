@@ -38,8 +38,8 @@ use line_problems::{missing_lines, near_lines, no_survey, uneven_fold};
 use record_table::Records;
 use room::Room;
 use trace_groups::{
-    dead_group, delay_group, far_crossline_group, far_inline_group, fault_groups, loud_group,
-    position_group, scalar_group,
+    delay_group, far_crossline_group, far_inline_group, fault_groups, position_group,
+    sample_groups, scalar_group,
 };
 use trace_record::PackedRecord;
 use volume_answers::head_facts;
@@ -314,9 +314,8 @@ fn push_of_samples(
     ensures err { IfErr result (λ fault. fault ≡ no_memory) }
     ensures memory { Rises (IsErrOf result AskFault.OutOfMemory) room.old room.new }
 {
-    let found = dead_group(room, records, floats)?;
-    push_group(room, lines, found)?;
-    let found = loud_group(room, records, floats)?;
-    push_group(room, lines, found)?;
+    let (dead, loud) = sample_groups(room, records, floats)?;
+    push_group(room, lines, dead)?;
+    push_group(room, lines, loud)?;
     Ok(())
 }

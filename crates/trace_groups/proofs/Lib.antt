@@ -6,3 +6,4 @@ pub mod OriginLemmas
 pub mod RecordLemmas
 pub mod FaultLemmas
 pub mod TimesLemmas
+pub mod LoudLemmas

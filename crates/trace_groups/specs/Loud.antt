@@ -1,5 +1,6 @@
 -- S13: loud traces. Whether samples are floats comes first.
 use Rattle.std.specs.Prelude.{ℕ, ℤ, pos, negsuc, ◌+◌, ◌-◌, ◌*◌, ◌^◌, ◌/◌, ◌%◌, ◌==◌, ◌&&◌, ◌||◌, not, max, unsigned_abs, nat_lt, int_le, Bool, true, false, List, [], filter_map, Option, Some, None, option_map, option_and_then, if◌then◌else◌}
+use Rattle.std.specs.List.{list_any}
 use Rattle.std.specs.Option.{option_map_or}
 use Rattle.trace_record.specs.Facts.{Facts}
 use Rattle.trace_groups.specs.declared.mark.Mark.{Mark}
@@ -47,6 +48,10 @@ is_loud true median a = nat_lt 0 median && is_finite median && (not (is_finite a
 -- the amount of a trace that is loud where this is the median
 abbrev pub loud_facts : Bool → ℕ → Facts → Option (ℤ × ℤ)
 loud_facts floats median f = option_and_then (λ a. if is_loud floats median a then Some (pos a, pos 0) else None) (amount_of floats f)
+
+-- the lower median of amounts, where one of them is loud beside it
+abbrev pub loud_beside : Bool → List ℕ → Option ℕ
+loud_beside floats ns = option_and_then (λ median. if list_any (is_loud floats median) ns then Some median else None) (lower_median ns)
 
 -- the loud traces
 abbrev pub loud_marks : Bool → List Facts → List Mark

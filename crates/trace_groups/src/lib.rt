@@ -21,15 +21,16 @@ mod positions;
 mod problem;
 mod run;
 mod run_tally;
+mod samples;
 mod suspect_groups;
 mod suspects;
 
 pub use crate::by_fault::fault_groups;
 pub use crate::group::TraceGroup;
-pub use crate::loud::loud_group;
 pub use crate::others::{delay_group, scalar_group};
 pub use crate::positions::position_group;
 pub use crate::problem::TraceProblem;
 pub use crate::run::Run;
-pub use crate::suspect_groups::{dead_group, far_crossline_group, far_inline_group};
+pub use crate::samples::sample_groups;
+pub use crate::suspect_groups::{far_crossline_group, far_inline_group};
 pub use room::OutOfMemory;

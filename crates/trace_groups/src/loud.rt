@@ -1,16 +1,16 @@
 // Loud traces.
-ghost use Rattle.std.specs.Prelude.{◌≡◌, ◌<◌, ◌^◌, IfOk, Some, max, unsigned_abs, length, map, filter_map, option_map, IsErr};
+ghost use Rattle.std.specs.Prelude.{◌≡◌, ◌||◌, ◌<◌, ◌^◌, IfOk, max, unsigned_abs, length, map, filter_map, option_map, IsErr};
+ghost use Rattle.std.specs.List.{list_any};
 ghost use Rattle.room.specs.Refusals.{Rises};
 ghost use Rattle.trace_record.specs.Facts.{facts_of};
 ghost use Rattle.trace_record.specs.Parts.{FitsSample};
 ghost use Rattle.trace_groups.specs.Groups.{group_of, group_in};
-ghost use Rattle.trace_groups.specs.Medians.{lower_median as lower_median_in};
-ghost use Rattle.trace_groups.specs.Loud.{amount_of as amount_in, pattern_of_amount as pattern_in, is_loud as is_loud_amount, loud_marks};
+ghost use Rattle.trace_groups.specs.Loud.{amount_of as amount_in, pattern_of_amount as pattern_in, is_loud as is_loud_amount, loud_beside, loud_marks};
 ghost use Rattle.trace_groups.specs.declared.problem.TraceProblem.TheVariants.{Loud as loud};
 
 use crate::dead::has_numbers;
 use crate::float_amounts::{exceeds_100_times, is_finite, pattern_of_amount};
-use crate::medians::lower_median;
+use crate::medians::around_median;
 use crate::suspect_groups::group_by;
 use crate::suspects::Suspicion;
 use crate::{TraceGroup, TraceProblem};
@@ -54,54 +54,62 @@ fn is_loud(floats: bool, median: u64, amount: u64) -> bool
     median > 0 && LOUD_TIMES * u128::from(median) < u128::from(amount)
 }
 
-/// S13: the traces of which a sample is more than 100 times as far from 0 as the lower median of
-/// such greatest amounts, over the traces that have samples with values; none where this median is
-/// 0. Where samples are floats, traces count of which two samples or more are numbers, amounts are
-/// compared exactly, and none is loud where the median is infinite. Three passes at most, and the
-/// selection of the median. Takes 8 bytes a trace, and memory for the group; refused for want of it
-/// alone.
-pub fn loud_group(
+// S13: the traces of which a sample is more than 100 times as far from 0 as the lower median of
+// such greatest amounts, which are given and moved about; none where this median is 0. Where
+// samples are floats, amounts are compared exactly, and none is loud where the median is infinite.
+// The traces are passed over only where an amount is loud. Takes memory for the group.
+pub(crate) fn loud_group(
     room: &mut Room,
     records: &Records,
     floats: bool,
+    amounts: &mut [u64],
 ) -> Result<Option<TraceGroup>, OutOfMemory>
-    requires { length records.now < 2 ^ 32 }
+    requires few { length records.now < 2 ^ 32 }
+    requires amounts { amounts.old ≡ filter_map (amount_in floats) (map facts_of records.now) }
     ensures group { IfOk result (λ group. option_map group_in group ≡
         group_of loud (loud_marks floats (map facts_of records.now))) }
     ensures memory { Rises (IsErr result) room.old room.new }
 {
-    match median_of(room, records, floats)? {
+    match loud_median(floats, amounts) {
         Some(median) => { group_by(room, TraceProblem::Loud, records, &Loud { floats, median }) }
         None => Ok(None),
     }
 }
 
-// The lower median of the traces' greatest amounts.
-fn median_of(room: &mut Room, records: &Records, floats: bool) -> Result<Option<u64>, OutOfMemory>
-    ensures median { IfOk result (λ median. median ≡
-        lower_median_in (filter_map (amount_in floats) (map facts_of records.now))) }
-    ensures memory { Rises (IsErr result) room.old room.new }
+// The lower median of the amounts, where one of them is loud beside it. Moves them about.
+fn loud_median(floats: bool, amounts: &mut [u64]) -> Option<u64>
+    ensures { result ≡ loud_beside floats amounts.old }
 {
-    let mut amounts = amounts_of(room, records, floats)?;
-    Ok(lower_median(amounts.as_mut_slice()))
+    let (front, median, back) = around_median(amounts)?;
+    if !has_loud_around(floats, front, median, back) {
+        return None;
+    }
+    Some(median)
 }
 
-// The greatest amounts of the traces that have one, in order.
-fn amounts_of(room: &mut Room, records: &Records, floats: bool) -> Result<Vec<u64>, OutOfMemory>
-    ensures amounts { IfOk result (λ amounts. amounts.items ≡
-        filter_map (λ r. amount_in floats (facts_of r)) records.now) }
-    ensures memory { Rises (IsErr result) room.old room.new }
+// Whether the median itself is loud, or one of the amounts in front of it and behind it.
+fn has_loud_around(floats: bool, front: &[u64], median: u64, back: &[u64]) -> bool
+    ensures { result ≡ (list_any (is_loud_amount floats median) front.now
+        || (is_loud_amount floats median median
+        || list_any (is_loud_amount floats median) back.now)) }
 {
-    let made = records
+    has_loud(floats, median, front)
+        || is_loud(floats, median, median)
+        || has_loud(floats, median, back)
+}
+
+// Whether one of the amounts is loud where this is the median.
+fn has_loud(floats: bool, median: u64, amounts: &[u64]) -> bool
+    ensures { result ≡ list_any (is_loud_amount floats median) amounts.now }
+{
+    amounts
         .iter()
-        .filter_map(|r| amount_of(floats, &r))
-        .collect(room.alloc());
-    room.told(made)
+        .any(|amount| is_loud(floats, median, *amount))
 }
 
 // The greatest amount of the trace's samples, of floats its pattern; none without enough samples,
 // or where they have no values.
-fn amount_of(floats: bool, trace: &Record) -> Option<u64>
+pub(crate) fn amount_of(floats: bool, trace: &Record) -> Option<u64>
     ensures { result ≡ amount_in floats (facts_of trace.now) }
 {
     let amplitudes = trace.amplitudes?;

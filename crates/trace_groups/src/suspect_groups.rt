@@ -3,10 +3,9 @@ ghost use Rattle.std.specs.Prelude.{◌≡◌, ◌<◌, ◌^◌, IfOk, length, m
 ghost use Rattle.room.specs.Refusals.{Rises};
 ghost use Rattle.trace_record.specs.Facts.{facts_of};
 ghost use Rattle.trace_groups.specs.Groups.{group_of, group_in, marks_of};
-ghost use Rattle.trace_groups.specs.Suspects.{far_inlines, far_crosslines, dead_marks};
-ghost use Rattle.trace_groups.specs.declared.problem.TraceProblem.TheVariants.{FarInline as far_inline, FarCrossline as far_crossline, Dead as dead};
+ghost use Rattle.trace_groups.specs.Suspects.{far_inlines, far_crosslines};
+ghost use Rattle.trace_groups.specs.declared.problem.TraceProblem.TheVariants.{FarInline as far_inline, FarCrossline as far_crossline};
 
-use crate::dead::Dead;
 use crate::run_tally::RunTally;
 use crate::suspects::{FarCrossline, FarInline, Suspicion};
 use crate::{TraceGroup, TraceProblem};
@@ -51,22 +50,6 @@ pub fn far_crossline_group(
         ),
         None => Ok(None),
     }
-}
-
-/// S12: the traces with two samples or more that all have one value. Where samples are floats those
-/// that are no number do not count, infinities are numbers, and -0 has the value of 0. None where
-/// samples have no values. One pass. Takes memory for the group; refused for want of it alone.
-pub fn dead_group(
-    room: &mut Room,
-    records: &Records,
-    floats: bool,
-) -> Result<Option<TraceGroup>, OutOfMemory>
-    requires { length records.now < 2 ^ 32 }
-    ensures group { IfOk result (λ group. option_map group_in group ≡
-        group_of dead (dead_marks floats (map facts_of records.now))) }
-    ensures memory { Rises (IsErr result) room.old room.new }
-{
-    group_by(room, TraceProblem::Dead, records, &Dead { floats })
 }
 
 // The traces of which there is something to say.

@@ -32,6 +32,7 @@ pub mod SeenLemmas
 pub mod EachLemmas
 pub mod LookLemmas
 pub mod RangeLemmas
+pub mod RangeMemoryLemmas
 pub mod RisingLemmas
 pub mod FloatLemmas
 pub mod ToldLemmas

@@ -7,7 +7,7 @@ use Rattle.bench_rules.specs.declared.ask_fault.AskFault.{AskFault}
 use Rattle.bench_rules.specs.declared.ask_fault.AskFault.TheVariants.{NoField, OutOfMemory}
 use Rattle.bench_rules.specs.Answer.{Reply}
 use Rattle.bench_rules.specs.ChosenQueries.{of_range}
-use Rattle.header_answers.proofs.RangeLemmas.{range_memory}
+use Rattle.bench_rules.proofs.RangeMemoryLemmas.{range_memory}
 
 other_fault : (v : Volume) (range : Option (ℕ × ℕ)) (fault : AskFault) → ((reply : Reply) → of_range v range reply ≡ Err fault) → fault ≡ OutOfMemory → ⊥
 other_fault v None fault told memory =

@@ -2,4 +2,3 @@ pub mod FoundLemmas
 mod NameLemmas
 mod SeenLemmas
 mod MainLemmas
-pub mod RangeLemmas

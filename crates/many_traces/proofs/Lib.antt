@@ -8,4 +8,3 @@ mod NearLemmas
 mod BlockLemmas
 pub mod ExchangeLemmas
 pub mod SortedTraceLemmas
-mod RangeFaultLemmas

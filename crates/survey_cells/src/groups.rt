@@ -16,15 +16,15 @@ use room::{OutOfMemory, Room};
 const WORDS: u64 = 0x4000_0000_0000_0000;
 
 // The numbers that spread the words of the coordinates over all words: odd ones with bits all over.
-const SPREAD_X: u64 = 0x9E37_79B9_7F4A_7C15;
+pub(crate) const SPREAD_X: u64 = 0x9E37_79B9_7F4A_7C15;
 
-const SPREAD_Y: u64 = 0xC2B2_AE3D_27D4_EB4F;
+pub(crate) const SPREAD_Y: u64 = 0xC2B2_AE3D_27D4_EB4F;
 
 // Half of the bits of a word.
 const HALF: u64 = 0x1_0000_0000;
 
-/// Leaves out most of the cells that share their position with no other one. Takes 2 bytes a cell
-/// while it does; refused for want of them alone.
+/// Leaves out most of the cells that share their position with no other one. Takes 4 bytes a cell
+/// at most while it does; refused for want of them alone.
 pub(crate) fn keep_crowded(room: &mut Room, cells: &mut Vec<SurveyCell>) -> Result<(), OutOfMemory>
     ensures sharing { OnOk result (sharing (in_order placed_cmp (map standing_in cells.new.items))
         ≡ sharing (in_order placed_cmp (map standing_in cells.old.items))) }

@@ -1,5 +1,5 @@
 // How often each difference of positions occurs.
-ghost use Rattle.std.specs.Prelude.{◌≡◌, ◌+◌, ◌^◌, ◌<◌, List, All, [], cond, option_map, IfOk, OnOk, IsErr};
+ghost use Rattle.std.specs.Prelude.{◌≡◌, ◌+◌, ◌^◌, ◌<◌, List, All, [], cond, option_map, OnOk, IsErr};
 ghost use Rattle.std.specs.List.Sorted.{IsStrictlySortedBy};
 ghost use Rattle.std.specs.Map.{keys_of, values_of};
 ghost use Rattle.std.specs.Map.Iter.{ShowsInOrder, deref_pair};
@@ -10,6 +10,7 @@ ghost use Rattle.position_differences.specs.Commonest.{oftenest as oftenest_of, 
 ghost use Rattle.position_differences.specs.Differences.{difference_cmp};
 ghost use Rattle.survey_cells.specs.Lately.{counted_in, held_in};
 
+use crate::groups::{SPREAD_X, SPREAD_Y};
 use key_counts::Ratio;
 use position_differences::Difference;
 use room::{OutOfMemory, Room};
@@ -23,11 +24,6 @@ const PLACES: usize = 64;
 
 // What is left of a word of 64 bits divided by this are so many places.
 const PLACE: u64 = 0x0400_0000_0000_0000;
-
-// The numbers that spread the numerators over all words.
-const SPREAD_X: u64 = 0x9E37_79B9_7F4A_7C15;
-
-const SPREAD_Y: u64 = 0xC2B2_AE3D_27D4_EB4F;
 
 /// How often each difference was counted, seen as the list of the differences with their numbers,
 /// rising.
@@ -85,7 +81,8 @@ impl Times {
         self.map.get(difference).copied().unwrap_or(0)
     }
 
-    /// Counts a difference so often.
+    /// Counts a difference so often. Takes memory for one that has no number yet; refused for want
+    /// of it alone.
     pub(crate) fn raise_by(
         &mut self,
         room: &mut Room,
@@ -132,6 +129,7 @@ pub(crate) fn places_for_differences() -> [(Difference, u64); PLACES]
 }
 
 /// Counts a difference once more at its place. One that stands there is counted among all before.
+/// Takes memory for one that has no number yet; refused for want of it alone.
 pub(crate) fn count_difference(
     room: &mut Room,
     lately: &mut [(Difference, u64)],
@@ -164,7 +162,8 @@ fn place_of(difference: &Difference) -> usize {
     (x.wrapping_add(y) / PLACE) as usize
 }
 
-/// Counts those at their places among all.
+/// Counts those at their places among all. Takes memory for those that have no number yet; refused
+/// for want of it alone.
 pub(crate) fn count_lately(
     room: &mut Room,
     lately: &[(Difference, u64)],

@@ -1,4 +1,4 @@
-use Rattle.header_answers.proofs.RangeLemmas.{range_rises}
+use Rattle.bench_rules.proofs.RangeMemoryLemmas.{range_rises}
 use Rattle.header_answers.proofs.answers.found_answer.Goals as goal
 
 pub returns-in-Some-clause-memory : goal.returns-in-Some-clause-memory

@@ -1,6 +1,6 @@
 use Rattle.std.proofs.Common.{◌∙◌, inl, sym}
 use Rattle.bench_rules.proofs.RangeLemmas.{table_is, table_refused}
-use Rattle.many_traces.proofs.RangeFaultLemmas.{range_rises}
+use Rattle.bench_rules.proofs.RangeMemoryLemmas.{range_rises}
 use Rattle.many_traces.proofs.answers.table_answer.Goals as goal
 
 pub returns-in-Err-clause-reply : goal.returns-in-Err-clause-reply

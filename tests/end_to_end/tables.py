@@ -83,8 +83,9 @@ def check(room, one, *words, **more):
 
 
 def check_saved(room, one, before):
-    """Looks at the saved file."""
+    """Looks at the saved file: of a row that names none, only that a run with OUT made it, but where the file was refused."""
     if one.saved is None:
+        assert not one.out or room.has("o.sgy") == (one.status != 3)
         return
     if one.saved == ABSENT:
         assert not room.has("o.sgy")

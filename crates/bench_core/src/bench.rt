@@ -61,8 +61,8 @@ impl Bench {
     /// Reads a whole file and cuts it; the field map is then the six geometry names at their
     /// standard places, and no slice is kept. Looks at each trace once at most, for its record.
     /// Takes memory. Refused: L01 where a read failed in this call, L02 to L15 or L17 for the first
-    /// reason that the file gives, L16 where a growth was refused. A refused load has taken at most
-    /// one byte above the limit.
+    /// reason that the file gives, L16 where a growth was refused in this call. A refused load has
+    /// taken at most one byte above the limit.
     pub fn load<R: Read>(
         room: &mut Room,
         reader: &mut Source<R>,
@@ -101,7 +101,7 @@ impl Bench {
     /// is then the six geometry names at their standard places, and no slice is kept. Looks at each
     /// trace once, for its record. Takes memory. Refused: L01 where a read failed or the file has
     /// not so many bytes, L02 to L15 or L17 for the first reason that every file with the bytes
-    /// that were read and so many gives, L16 where a growth was refused.
+    /// that were read and so many gives, L16 where a growth was refused in this call.
     pub fn load_on_disk(
         room: &mut Room,
         file: File,

@@ -2,7 +2,8 @@
 //! exchanges that bring them to the front of the file, in their order, and back again, so that an
 //! edit of traces that follow one another is one of any traces.
 //!
-//! Traces count from 1. Each call takes memory in step with the list. `choose` looks once at each
+//! Traces count from 1. Each call takes memory in step with the list, and gives up for want of it
+//! only where a growth was refused in that call. `choose` looks once at each
 //! trace of its range where the records beside the traces do not tell all numbers of the
 //! conditions, else at none, and `chosen_answer` then once at most at each that is chosen; they
 //! leave the volume and what is prepared as they are. Where the bytes of the volume are on disk,

@@ -21,7 +21,8 @@
 //! `Move`, `MoveBlock`, `Resize`, `Renumber`, `Compute`, `Sort` and `OfChosen` alone; `ask` for
 //! `Survey` and for answers that are texts or lists alone: `Line`, `Lines`, `Stanzas`, `Fields`,
 //! `Grid`, `Inlines`, `Crosslines`, `Histogram`, `Slice`, `Faults`, `Problems`, `Table`, `Find`,
-//! `Header`, `Extremes` and `OfChosen`.
+//! `Header`, `Extremes` and `OfChosen`. Each gives up for want of memory only where a growth was
+//! refused in that call.
 #![tactic(auto)]
 
 mod block_edit;

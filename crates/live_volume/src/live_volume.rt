@@ -84,8 +84,8 @@ impl LiveVolume {
     /// Reads a whole file and cuts it; the field map is then the six geometry names at their
     /// standard places. Looks at each trace once at most, for its record. Takes memory. Refused:
     /// L01 where a read failed in this call, L02 to L15 or L17 for the first reason that the file
-    /// gives, L16 where a growth was refused. A refused load has taken at most one byte above the
-    /// limit.
+    /// gives, L16 where a growth was refused in this call. A refused load has taken at most one
+    /// byte above the limit.
     pub fn load<R: Read>(
         room: &mut Room,
         reader: &mut Source<R>,

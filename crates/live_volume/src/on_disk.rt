@@ -21,7 +21,7 @@ impl LiveVolume {
     /// is then the six geometry names at their standard places. Looks at each trace once, for its
     /// record. Takes memory. Refused: L01 where a read failed or the file has not so many bytes,
     /// L02 to L15 or L17 for the first reason that every file with the bytes that were read and so
-    /// many gives, L16 where a growth was refused.
+    /// many gives, L16 where a growth was refused in this call.
     pub fn load_on_disk(
         room: &mut Room,
         file: File,

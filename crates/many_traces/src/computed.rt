@@ -74,7 +74,8 @@ pub fn computed_bytes(
     }
 }
 
-// The bytes of the numbers of traces a to b, in this room, or the first refusal.
+// The bytes of the numbers of traces a to b, in this list, which has place for them, or the first
+// refusal.
 fn filled(
     overlay: &mut Overlay<PackedRecord>,
     a: u32,

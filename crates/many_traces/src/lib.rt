@@ -5,8 +5,9 @@
 //!
 //! Traces count from 1. Each call looks once at each trace that it is asked about, and leaves the
 //! volume and what is prepared as they are. Each takes memory in step with its answer, and is
-//! refused for want of it, E11, only where nothing else refuses it; but of listed traces E11 may
-//! come in the place of E03, and of two numbers or of samples in the place of any refusal.
+//! refused for want of it, E11, only where a growth was refused in that call, and only where
+//! nothing else refuses it; but of listed traces E11 may come in the place of E03, and of two
+//! numbers or of samples in the place of any refusal.
 //!
 //! Where the bytes of the volume are on disk, each is also refused where a trace could not be read,
 //! E14 or E15, and what it says of numbers holds if each read since the load agreed.

@@ -105,8 +105,7 @@ fn space(room: &mut Room, count: usize, width: usize) -> Option<Vec<i128>>
     ensures room { IfSome result (λ numbers. width * count ≤ vec_capacity numbers) }
     ensures memory { Rises (IsNone result) room.old room.new }
 {
-    // More of them than can be counted are asked for too, as many as can: the allocator refuses
-    // them.
+    // More of them than can be counted are asked for too, as many as can: the library refuses them.
     let numbers = width.saturating_mul(count);
     match room.told(Vec::with_capacity(room.alloc(), numbers)) {
         Ok(numbers) => Some(numbers),
@@ -114,7 +113,7 @@ fn space(room: &mut Room, count: usize, width: usize) -> Option<Vec<i128>>
     }
 }
 
-// The table of traces a to b, in this room.
+// The table of traces a to b, in this list, which has place for them.
 fn filled(
     overlay: &mut Overlay<PackedRecord>,
     a: u32,
@@ -147,7 +146,8 @@ fn filled(
     Ok(Table::new(a, b - a + 1, places.len(), numbers))
 }
 
-// The numbers at the places of these traces, which rise, one row behind the other, in this room.
+// The numbers at the places of these traces, which rise, one row behind the other, in this list,
+// which has place for them.
 fn listed_rows(
     overlay: &mut Overlay<PackedRecord>,
     traces: &[u32],

@@ -5,8 +5,9 @@
 //!
 //! Traces count from 1. `stats_among` looks once at each trace, and leaves the volume and what is
 //! prepared as they are. It takes memory in step with its answer, and is refused for want of it,
-//! E11. Where the bytes of the volume are on disk, it is also refused where a trace could not be
-//! read, E14 or E15, and what it says holds if each read since the load agreed.
+//! E11, only where a growth was refused in that call. Where the bytes of the volume are on disk, it
+//! is also refused where a trace could not be read, E14 or E15, and what it says holds if each read
+//! since the load agreed.
 #![tactic(auto)]
 
 mod among;

@@ -8,8 +8,9 @@
 //! Behind a command on a range of traces, and `where`, conditions may stand, with `and` between
 //! them: the command is then about those of the traces that meet all of them.
 //!
-//! [`parse_line`] reads one line, and takes memory only where its command holds a text or a list.
-//! [`session_word`] tells what a line says to a session itself: `save` is no command of a script.
+//! [`parse_line`] reads one line, and takes memory only where its command holds a text or a list;
+//! it gives up for want of it only where a growth was refused in that call. [`session_word`] tells
+//! what a line says to a session itself: `save` is no command of a script.
 #![tactic(auto)]
 
 mod chosen;

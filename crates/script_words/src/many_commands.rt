@@ -16,6 +16,7 @@ use crate::words::Words;
 use bench_rules::{Chosen, ChosenEdit, ChosenQuery, Edit, Items, Query};
 use float_codes::FloatFormat;
 use room::Room;
+use std::alloc::Global;
 
 pub(crate) fn set_one(room: &mut Room, traces: u32, words: Words) -> Result<Command, LineFault>
     ensures read { IsRead (read_set_one traces (words_of words.entry)) result }
@@ -74,44 +75,44 @@ pub(crate) fn delete_one(traces: u32, words: Words) -> Result<Command, LineFault
     Ok(Command::Apply(Edit::Delete(p)))
 }
 
-pub(crate) fn delete_each(room: &mut Room, traces: u32, words: Words) -> Result<Command, LineFault>
+pub(crate) fn delete_each(alloc: Global, traces: u32, words: Words) -> Result<Command, LineFault>
     ensures read { result ≡ read_delete_each traces (spelled (words_of words.entry)) }
-    ensures memory { Rises (IsErrOf result LineFault.OutOfMemory) room.old room.new }
+    ensures other { IfErr result (λ fault. fault ≢ LineFault.OutOfMemory) }
 {
     let (a, b) = range_alone(words).ok_or(LineFault::Words)?;
     let a = trace(traces, a).ok_or(LineFault::Number)?;
     let b = trace(traces, b).ok_or(LineFault::Number)?;
     let chosen = Chosen {
         traces: Some((a, b)),
-        conditions: Items::new(Vec::new(room.alloc())),
+        conditions: Items::new(Vec::new(alloc)),
     };
     Ok(Command::Apply(Edit::OfChosen(chosen, ChosenEdit::Delete)))
 }
 
-pub(crate) fn count_each(room: &mut Room, traces: u32, words: Words) -> Result<Command, LineFault>
+pub(crate) fn count_each(alloc: Global, traces: u32, words: Words) -> Result<Command, LineFault>
     ensures read { result ≡ read_count_each traces (spelled (words_of words.entry)) }
-    ensures memory { Rises (IsErrOf result LineFault.OutOfMemory) room.old room.new }
+    ensures other { IfErr result (λ fault. fault ≢ LineFault.OutOfMemory) }
 {
     let (a, b) = range_alone(words).ok_or(LineFault::Words)?;
     let a = trace(traces, a).ok_or(LineFault::Number)?;
     let b = trace(traces, b).ok_or(LineFault::Number)?;
     let chosen = Chosen {
         traces: Some((a, b)),
-        conditions: Items::new(Vec::new(room.alloc())),
+        conditions: Items::new(Vec::new(alloc)),
     };
     Ok(Command::Ask(Query::OfChosen(chosen, ChosenQuery::Count)))
 }
 
-pub(crate) fn stats_each(room: &mut Room, traces: u32, words: Words) -> Result<Command, LineFault>
+pub(crate) fn stats_each(alloc: Global, traces: u32, words: Words) -> Result<Command, LineFault>
     ensures read { result ≡ read_stats_each traces (spelled (words_of words.entry)) }
-    ensures memory { Rises (IsErrOf result LineFault.OutOfMemory) room.old room.new }
+    ensures other { IfErr result (λ fault. fault ≢ LineFault.OutOfMemory) }
 {
     let (a, b) = range_alone(words).ok_or(LineFault::Words)?;
     let a = trace(traces, a).ok_or(LineFault::Number)?;
     let b = trace(traces, b).ok_or(LineFault::Number)?;
     let chosen = Chosen {
         traces: Some((a, b)),
-        conditions: Items::new(Vec::new(room.alloc())),
+        conditions: Items::new(Vec::new(alloc)),
     };
     Ok(Command::Ask(Query::OfChosen(chosen, ChosenQuery::Stats)))
 }
@@ -119,13 +120,13 @@ pub(crate) fn stats_each(room: &mut Room, traces: u32, words: Words) -> Result<C
 /// The value of samples that are floats, of the format that comes first where they are, may be a
 /// decimal.
 pub(crate) fn fill_each(
-    room: &mut Room,
+    alloc: Global,
     floats: Option<FloatFormat>,
     traces: u32,
     words: Words,
 ) -> Result<Command, LineFault>
     ensures read { result ≡ read_fill floats traces (spelled (words_of words.entry)) }
-    ensures memory { Rises (IsErrOf result LineFault.OutOfMemory) room.old room.new }
+    ensures other { IfErr result (λ fault. fault ≢ LineFault.OutOfMemory) }
 {
     let (a, b, first, last, value) = range_and_three(words).ok_or(LineFault::Words)?;
     let a = trace(traces, a).ok_or(LineFault::Number)?;
@@ -135,7 +136,7 @@ pub(crate) fn fill_each(
     let first_sample = position(first).ok_or(LineFault::Number)?;
     let chosen = Chosen {
         traces: Some((a, b)),
-        conditions: Items::new(Vec::new(room.alloc())),
+        conditions: Items::new(Vec::new(alloc)),
     };
     let edit = ChosenEdit::Fill {
         first_sample,

@@ -97,12 +97,12 @@ fn each(
         RangeCommand::Set => set_each(room, traces, words),
         RangeCommand::Renumber => renumber(room, traces, words),
         RangeCommand::Compute => compute(room, traces, words),
-        RangeCommand::Delete => delete_each(room, traces, words),
-        RangeCommand::Count => count_each(room, traces, words),
-        RangeCommand::Stats => stats_each(room, traces, words),
+        RangeCommand::Delete => delete_each(room.alloc(), traces, words),
+        RangeCommand::Count => count_each(room.alloc(), traces, words),
+        RangeCommand::Stats => stats_each(room.alloc(), traces, words),
         RangeCommand::Swap => swap_each(room, traces, words),
-        RangeCommand::Samples => samples_each(room, traces, words),
-        RangeCommand::Fill(floats) => fill_each(room, floats, traces, words),
+        RangeCommand::Samples => samples_each(room.alloc(), traces, words),
+        RangeCommand::Fill(floats) => fill_each(room.alloc(), floats, traces, words),
     }
 }
 

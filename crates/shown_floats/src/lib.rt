@@ -2,7 +2,7 @@
 //! decimal that reads back as the value (`float_text`), or `nan`, `inf` or `-inf`.
 //!
 //! [`shown`] makes them of an answer of a volume, whose floats are ranks (`float_codes`), and takes
-//! memory for the items of a list alone.
+//! memory for the items of a list alone; it gives up only where a growth was refused in that call.
 #![tactic(auto)]
 
 mod float_answer;

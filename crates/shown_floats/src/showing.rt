@@ -16,7 +16,8 @@ use room::{OutOfMemory, Room};
 use trace_record::Statistics;
 
 /// The answer with the words of its floats, where it is one about samples; `Ok(None)` of any other.
-/// Takes memory for the items of a list alone, and is refused where there was none.
+/// Takes memory for the items of a list alone, and gives up only where a growth was refused in this
+/// call.
 pub fn shown(
     room: &mut Room,
     format: FloatFormat,

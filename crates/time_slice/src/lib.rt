@@ -3,9 +3,9 @@
 //! under edits, beside whose traces their records stand. A `SliceCache` keeps the slices that were
 //! asked last, and answers them again without a look at the traces; who edits the volume has it
 //! forget those that change. Both take memory and look at traces. They may be refused for want of
-//! memory, or, where the bytes of the volume are on disk, because a trace could not be read
-//! (`SliceFault`). `slice_answer` is the answer to a query for a slice. The calls that are named
-//! for a law do nothing: their contract is the law.
+//! memory, only where a growth was refused in that call, or, where the bytes of the volume are on
+//! disk, because a trace could not be read (`SliceFault`). `slice_answer` is the answer to a query
+//! for a slice. The calls that are named for a law do nothing: their contract is the law.
 //!
 //! The rows of a slice are claimed where each read since the load gave the bytes that the load read
 //! (`agreed`). That each sample is one of the format's, and which slices are kept, is claimed in

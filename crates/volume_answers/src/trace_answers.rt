@@ -1,5 +1,5 @@
 // The answers about the headers, the samples and the record of one trace.
-ghost use Rattle.std.specs.Prelude.{◌≡◌, ◌⊎◌, [], Some, true, false, IsTrue, IsErrAnd, option_map, ◌≢◌, IfErr};
+ghost use Rattle.std.specs.Prelude.{◌≡◌, ◌⊎◌, Some, true, false, IsTrue, IsErrAnd, option_map, ◌≢◌, IfErr};
 ghost use Rattle.frame_cut.specs.Traces.{is_trace, trace_of};
 ghost use Rattle.trace_view.specs.Values.{has_floats};
 ghost use Rattle.trace_record.specs.Facts.{facts_of};
@@ -19,7 +19,6 @@ use bench_rules::{
 };
 use edit_overlay::Overlay;
 use field_map::{FieldMap, Place};
-use std::alloc::Global;
 use trace_record::{PackedRecord, Record};
 
 /// The number in the field of trace p. One look at most, and none where the field has no place.

@@ -1,4 +1,5 @@
 -- Lines that are run twice end the same and print the same.
+use Rattle.std.specs.Prelude.{⊤}
 use Rattle.std.proofs.Common.{◌≡◌, ◌⊎◌, ℕ, ℤ, length, Bool, true, false, List, [], ◌∷◌, ◌++◌, Option, Some, None, Result, Ok, Err, IfOk, refl, sym, subst, ap, ap₂, ◌∙◌, inl, inr}
 use Rattle.std.specs.Prelude.{IsErrAnd, if◌then◌else◌}
 use Rattle.field_map.specs.Pairs.{Pairs}
@@ -192,31 +193,31 @@ same_query s query p q r t one prints other writes none never whole =
 abbrev AreSame : State → (p q : Printed) → (new again : State) → Type 0
 AreSame old p q new again = (again ≡ new) × (float_format old.volume.head.format ≡ None → q ≡ p)
 
-same_command : (old : State) (command : Command) (p q : Printed) (new again : State) → CommandStep old command p new → CommandStep old command q again → IsOfLine p → IsOfLine q → AreSame old p q new again
-same_command old (Apply edit) p q new again (r, step, prints, told) (s, other, writes, tells) none never =
+same_command : (old : State) (command : Command) (p q : Printed) (new again : State) → CommandStep ⊤ old command p new → CommandStep ⊤ old command q again → IsOfLine p → IsOfLine q → AreSame old p q new again
+same_command old (Apply edit) p q new again (r, step, prints, told, _) (s, other, writes, tells, _) none never =
     let both = same_edit (first_refusal old edit) old edit r s new again step other told tells (subst (λ (x : Printed). IsOfLine x) prints none) (subst (λ (x : Printed). IsOfLine x) writes never) in
     (both.0, λ _. writes ∙ ap (λ (x : EditReply). edit_reply x) both.1 ∙ sym prints)
-same_command old (Ask query) p q new again (r, one, prints, same) (t, other, writes, stays) none never =
+same_command old (Ask query) p q new again (r, one, prints, same, _, _) (t, other, writes, stays, _, _) none never =
     (stays ∙ sym same, λ whole. same_query old query p q r t one prints other writes none never whole)
 
-same_read : (old : State) (read : Result (Option Command) LineFault) (p q : Printed) (new again : State) → ReadStep old read p new → ReadStep old read q again → IsOfLine p → IsOfLine q → AreSame old p q new again
+same_read : (old : State) (read : Result (Option Command) LineFault) (p q : Printed) (new again : State) → ReadStep ⊤ old read p new → ReadStep ⊤ old read q again → IsOfLine p → IsOfLine q → AreSame old p q new again
 same_read old (Ok None) p q new again one other none never = (other.1 ∙ sym one.1, λ _. other.0 ∙ sym one.0)
 same_read old (Ok (Some command)) p q new again one other none never = same_command old command p q new again one other none never
 same_read old (Err fault) p q new again one other none never = (other.1 ∙ sym one.1, λ _. other.0 ∙ sym one.0)
 
 -- a line that is not answered E11 was read as what it gives
 is_read : (old : State) (line : List ℕ) (read : Result (Option Command) LineFault) (p : Printed) (new : State) (floats : Option FloatFormat) (traces : ℕ)
-    → IsParsed floats traces line read → ReadStep old read p new → IsOfLine p → read ≡ line_result floats traces line
+    → IsParsed floats traces line read → ReadStep ⊤ old read p new → IsOfLine p → read ≡ line_result floats traces line
 is_read old line read p new floats traces (inl is) step none = is
 is_read old line read p new floats traces (inr (is, want)) step none =
-    let out : ReadStep old (Err line_faults.OutOfMemory) p new = subst (λ (x : Result (Option Command) LineFault). ReadStep old x p new) is step in
+    let out : ReadStep ⊤ old (Err line_faults.OutOfMemory) p new = subst (λ (x : Result (Option Command) LineFault). ReadStep ⊤ old x p new) is step in
     absurd (none.0 out.0)
 
-same_line : (old : State) (line : List ℕ) (p q : Printed) (new again : State) → LineStep old line p new → LineStep old line q again → IsOfLine p → IsOfLine q → AreSame old p q new again
+same_line : (old : State) (line : List ℕ) (p q : Printed) (new again : State) → LineStep ⊤ old line p new → LineStep ⊤ old line q again → IsOfLine p → IsOfLine q → AreSame old p q new again
 same_line old line p q new again (read, parsed, step) (reading, parses, steps) none never =
     let one = is_read old line read p new _ _ parsed step none in
     let other = is_read old line reading q again _ _ parses steps never in
-    same_read old read p q new again step (subst (λ (x : Result (Option Command) LineFault). ReadStep old x q again) (other ∙ sym one) steps) none never
+    same_read old read p q new again step (subst (λ (x : Result (Option Command) LineFault). ReadStep ⊤ old x q again) (other ∙ sym one) steps) none never
 
 -- ---- all lines
 
@@ -230,5 +231,5 @@ lines_are_determined stay old new again (l ∷ ls) (p ∷ ps) (q ∷ qs) cut (mi
     let one = same_line old l p q mid middle step other of.0 more.0 in
     let alike = line_keeps stay old mid l p cut step in
     let here : IsRead mid = rw (alike.reading, alike.limits) alike.cut in
-    let all = lines_are_determined stay mid new again ls ps qs here rest (subst (λ (x : State). LineSteps x ls qs again) one.0 others) of.1 more.1 in
+    let all = lines_are_determined stay mid new again ls ps qs here rest (subst (λ (x : State). LineSteps ⊤ x ls qs again) one.0 others) of.1 more.1 in
     (all.0, λ whole. ap₂ (λ (x : Printed) (xs : List Printed). x ∷ xs) (one.1 whole) (all.1 (ap (λ (h : Head). float_format h.format) alike.head ∙ whole)))

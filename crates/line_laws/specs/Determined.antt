@@ -24,5 +24,5 @@ AreOfLines (p ∷ ps) = IsOfLine p × AreOfLines ps
 -- not floats they print the same.
 abbrev pub LinesAreDetermined : Type 0
 LinesAreDetermined = (old new again : State) (lines : List (List ℕ)) (printed others : List Printed)
-    → IsRead old → LineSteps old lines printed new → LineSteps old lines others again → AreOfLines printed → AreOfLines others
+    → IsRead old → LineSteps ⊤ old lines printed new → LineSteps ⊤ old lines others again → AreOfLines printed → AreOfLines others
     → (again ≡ new) × (float_format old.volume.head.format ≡ None → others ≡ printed)

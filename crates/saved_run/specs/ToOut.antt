@@ -22,18 +22,18 @@ pub record EndsOut (options : Options) (mode : Option ℕ) (bytes : Option (List
   pub cause : Stored bytes disk (λ _. TellsCause (is_whole options.save end) ended)
   pub any_moment : Stored bytes disk (IsNeverElse mode)
 
--- a run, from its readers and writers before it to their end, and then the end of its save: under OUT stands what its end says of the bytes that the
--- run gave the writer of the save
-pub record RunsToOut (on_disk : Bool) (options : Options) (mode : Option ℕ) (old : Devices) (reader script answers : Device) (end : RunEnd) (ended : OutEnd) (disk : Option Disk) : Type 0 where
+-- a run, from its readers and writers and the count of refused growths before it to those at its end, and then the end of its save: under
+-- OUT stands what its end says of the bytes that the run gave the writer of the save
+pub record RunsToOut (on_disk : Bool) (options : Options) (mode : Option ℕ) (old : Devices) (reader script answers : Device) (refused_growths : ℕ) (end : RunEnd) (ended : OutEnd) (disk : Option Disk) : Type 0 where
   pub out : Device
-  pub runs : Runs on_disk options old (devices reader script answers out) end
+  pub runs : Runs on_disk options old (devices reader script answers out refused_growths) end
   pub ends : EndsOut options mode out.bytes end ended disk
 
 -- the file was loaded, all lines of the script were run and what they print is written, and OUT, where what it leads to is known, is the file of what
 -- is held behind them: all its bytes, with this mode, and so after each crash from then on
-pub record HoldsAll (on_disk : Bool) (options : Options) (mode : Option ℕ) (old : Devices) (reader script answers : Device) (disk : Option Disk) : Type 0 where
+pub record HoldsAll (on_disk : Bool) (options : Options) (mode : Option ℕ) (old : Devices) (reader script answers : Device) (refused_growths : ℕ) (disk : Option Disk) : Type 0 where
   pub refused : ℕ
   pub end : State
   pub out : Device
-  pub lines : RunsThrough on_disk options old (devices reader script answers out) refused end
+  pub lines : RunsThrough on_disk options old (devices reader script answers out refused_growths) refused end
   pub stands : Known disk (IsStored mode (bytes_of end.volume))

@@ -1,5 +1,6 @@
 // A run, and then the end of its save.
-ghost use Rattle.std.specs.Prelude.{◌≡◌, [], true, false, Some, length, IsTrue, IfOk, IfErr, OnErr, option_map};
+ghost use Rattle.std.specs.Prelude.{◌≡◌, [], true, false, Some, length, IsTrue, IfOk, IfErr, OnErr, IsErrAnd, option_map};
+ghost use Rattle.room.specs.Refusals.{Rises};
 ghost use Rattle.std.specs.Io.Buffered.{writer_contents};
 ghost use Rattle.safe_save.specs.Saving.{beside_bytes};
 ghost use Rattle.script_text.specs.Devices.{device_of};
@@ -9,11 +10,12 @@ ghost use Rattle.run_ending.specs.declared.out_end.OutEnd.TheVariants.{Saved};
 ghost use Rattle.saved_run.specs.ToOut.{writer_of, EndsOut, RunsToOut, HoldsAll};
 
 use device_io::{Sink, Source};
+use frame_cut::LoadFault;
+use room::Room;
 use run_ending::{OutEnd, end_out};
 use safe_save::{Folder, Save};
 use script_hints::Notes;
 use script_run::{DiskRun, Options, RunEnd, run, run_on_disk};
-use std::alloc::Global;
 use std::fs::File;
 use std::io::{BufWriter, Read, Write};
 
@@ -48,7 +50,7 @@ impl<F> DiskToOut<F> {
 /// lines were run and `options.save` asks for it; else OUT stays as it was. How the save ended says
 /// what stands there (`OutEnd`). `mode` is that of a new file. Takes memory as `run` does.
 pub fn run_to_out<R: Read, S: Read, A: Write, F: Folder + Drop>(
-    alloc: Global,
+    room: &mut Room,
     reader: &mut Source<R>,
     script: &mut Source<S>,
     answers: &mut Sink<A>,
@@ -60,21 +62,21 @@ pub fn run_to_out<R: Read, S: Read, A: Write, F: Folder + Drop>(
     ensures run { RunsToOut false options mode
         (devices (device_of R.remaining reader.old) (device_of S.remaining script.old)
         (device_of A.contents answers.old)
-        (writer_of (writer_contents (option_map beside_bytes) writer)))
+        (writer_of (writer_contents (option_map beside_bytes) writer)) room.old)
         (device_of R.remaining reader.new) (device_of S.remaining script.new)
-        (device_of A.contents answers.new) result.end result.out (F.disk result.folder) }
+        (device_of A.contents answers.new) room.new result.end result.out (F.disk result.folder) }
 
     // Where the save is told as done, OUT is the file of what the lines made of the volume.
     ensures saved { writer_contents (option_map beside_bytes) writer ≡ Some [] →
         result.out ≡ Saved → HoldsAll false options mode
         (devices (device_of R.remaining reader.old) (device_of S.remaining script.old)
         (device_of A.contents answers.old)
-        (writer_of (writer_contents (option_map beside_bytes) writer)))
+        (writer_of (writer_contents (option_map beside_bytes) writer)) room.old)
         (device_of R.remaining reader.new) (device_of S.remaining script.new)
-        (device_of A.contents answers.new) (F.disk result.folder) }
+        (device_of A.contents answers.new) room.new (F.disk result.folder) }
 {
     let mut out = Sink::new(writer);
-    let end = run(alloc, reader, script, answers, &mut out, options, notes);
+    let end = run(room, reader, script, answers, &mut out, options, notes);
     let (folder, out) = end_out(end, options.save, out.into_inner(), mode);
     ToOut { end, out, folder }
 }
@@ -83,7 +85,7 @@ pub fn run_to_out<R: Read, S: Read, A: Write, F: Folder + Drop>(
 /// is said of it holds where each later read gave the bytes of the load (`agreed`); of a file that
 /// was not loaded OUT is what it was.
 pub fn run_on_disk_to_out<S: Read, A: Write, F: Folder + Drop>(
-    alloc: Global,
+    room: &mut Room,
     file: File,
     size: u64,
     script: &mut Source<S>,
@@ -97,17 +99,18 @@ pub fn run_on_disk_to_out<S: Read, A: Write, F: Folder + Drop>(
         RunsToOut true options mode
         (devices (unread volume.loaded) (device_of S.remaining script.old)
         (device_of A.contents answers.old)
-        (writer_of (writer_contents (option_map beside_bytes) writer)))
+        (writer_of (writer_contents (option_map beside_bytes) writer)) room.old)
         read_whole (device_of S.remaining script.new)
-        (device_of A.contents answers.new) result.run.end result.out (F.disk result.folder)) }
+        (device_of A.contents answers.new) room.new result.run.end result.out
+        (F.disk result.folder)) }
     ensures saved { IfOk result.run.volume (λ volume. IsTrue volume.agreed →
         writer_contents (option_map beside_bytes) writer ≡ Some [] → result.out ≡ Saved →
         HoldsAll true options mode
         (devices (unread volume.loaded) (device_of S.remaining script.old)
         (device_of A.contents answers.old)
-        (writer_of (writer_contents (option_map beside_bytes) writer)))
+        (writer_of (writer_contents (option_map beside_bytes) writer)) room.old)
         read_whole (device_of S.remaining script.new)
-        (device_of A.contents answers.new) (F.disk result.folder)) }
+        (device_of A.contents answers.new) room.new (F.disk result.folder)) }
     ensures size { IfOk result.run.volume (λ volume. length volume.loaded ≡ size) }
     ensures refused { IfErr result.run.volume (RefusesPass size options
         (device_of S.remaining script.old) (device_of S.remaining script.new)
@@ -115,9 +118,11 @@ pub fn run_on_disk_to_out<S: Read, A: Write, F: Folder + Drop>(
     ensures unsaved { OnErr result.run.volume
         (EndsOut options mode (writer_contents (option_map beside_bytes) writer)
         result.run.end result.out (F.disk result.folder)) }
+    ensures memory { Rises (IsErrAnd result.run.volume (λ e. e.fault ≡ LoadFault.OutOfMemory))
+        room.old room.new }
 {
     let mut out = Sink::new(writer);
-    let run = run_on_disk(alloc, file, size, script, answers, &mut out, options, notes);
+    let run = run_on_disk(room, file, size, script, answers, &mut out, options, notes);
     let (folder, out) = end_out(run.end, options.save, out.into_inner(), mode);
     DiskToOut { run, out, folder }
 }

@@ -13,3 +13,5 @@ pub mod InPlaceLemmas
 pub mod PlaceLemmas
 mod SectionOutLemmas
 mod SectionAskedLemmas
+pub mod WantLemmas
+pub mod SessionWantLemmas

@@ -1,7 +1,9 @@
 -- How a run ends, and what the readers and writers told.
-use Rattle.std.specs.Prelude.{◌≡◌, ◌⊎◌, ◌<◌, ℕ, ◌+◌, MatchOption, Bool, true, false, IsTrue, List, [], ◌∷◌, ◌++◌, length, take}
+use Rattle.std.specs.Prelude.{◌≡◌, ◌⊎◌, ◌<◌, ⊤, ℕ, ◌+◌, MatchOption, Bool, true, false, IsTrue, List, [], ◌∷◌, ◌++◌, length, take}
 use Rattle.frame_cut.specs.declared.load_fault.LoadFault.{LoadFault}
+use Rattle.frame_cut.specs.declared.load_fault.LoadFault.TheVariants as load_faults
 use Rattle.std.specs.Io.KnownBytes.{Appends}
+use Rattle.room.specs.Refusals.{WasRefused}
 use Rattle.edit_overlay.specs.declared.save_fault.SaveFault.{SaveFault}
 use Rattle.frame_cut.specs.Cuts.{IsCut}
 use Rattle.frame_cut.specs.Volume.{bytes_of}
@@ -10,6 +12,7 @@ use Rattle.script_run.specs.declared.options.Options.{Options}
 use Rattle.script_text.specs.declared.run_end.RunEnd.{RunEnd}
 use Rattle.script_text.specs.declared.run_end.RunEnd.TheVariants as ends
 use Rattle.script_text.specs.declared.script_fault.ScriptFault.{ScriptFault}
+use Rattle.script_text.specs.declared.script_fault.ScriptFault.TheVariants as script_faults
 use Rattle.script_text.specs.Devices.{Device, Takes, TakesPart, count_in_64_bits}
 use Rattle.script_run.specs.Loading.{Loads, IsLoadRefused, ReadsScript, IsScriptRefused}
 use Rattle.script_text.specs.RefusalTexts.{load_refusal_line, script_refusal_line}
@@ -17,44 +20,47 @@ use Rattle.script_words.specs.Words.{script_lines}
 use Rattle.script_run.specs.FromScratch.{ScratchSteps, saved}
 use Rattle.script_run.specs.Runs.{LineStep, RunsWhole, StopsAt, BreaksOff}
 
--- the readers of the volume and of the script, the writers of the answers and of the saved volume
+-- the readers of the volume and of the script, the writers of the answers and of the saved volume, and how often a growth was refused
 pub record Devices : Type 0 where
   pub reader : Device
   pub script : Device
   pub answers : Device
   pub out : Device
+  pub refused_growths : ℕ
 
--- the four devices of a run
-abbrev pub devices : Device → Device → Device → Device → Devices
-devices reader script answers out = record { reader = reader; script = script; answers = answers; out = out }
+-- the four devices of a run, and how often a growth was refused
+abbrev pub devices : Device → Device → Device → Device → ℕ → Devices
+devices reader script answers out refused_growths = record { reader = reader; script = script; answers = answers; out = out; refused_growths = refused_growths }
 
 -- the volume is loaded, then the script is read whole
 pub record Begins (on_disk : Bool) (options : Options) (old new : Devices) (start : State) (script : List ℕ) : Type 0 where
   pub loaded : Loads old.reader new.reader options.reading options.limits on_disk start
   pub read : ReadsScript old.script new.script script
 
--- the volume is refused: the script is not read, and nothing is saved
+-- the volume is refused, with L16 only where a growth was refused: the script is not read, and nothing is saved
 pub record RefusesLoad (options : Options) (old new : Devices) (fault : LoadFault) : Type 0 where
   pub refused : IsLoadRefused old.reader new.reader options.reading options.limits fault
   pub unread : new.script ≡ old.script
   pub unsaved : new.out ≡ old.out
+  pub memory : fault ≡ load_faults.OutOfMemory → WasRefused old.refused_growths new.refused_growths
 
--- the volume is loaded and the script refused: nothing is saved
+-- the volume is loaded and the script refused, with P03 only where a growth was refused: nothing is saved
 pub record RefusesScript (on_disk : Bool) (options : Options) (old new : Devices) (fault : ScriptFault) : Type 0 where
   pub start : State
   pub loaded : Loads old.reader new.reader options.reading options.limits on_disk start
   pub refused : IsScriptRefused old.script new.script fault
   pub unsaved : new.out ≡ old.out
+  pub memory : fault ≡ script_faults.OutOfMemory → WasRefused old.refused_growths new.refused_growths
 
--- all lines are run, with so many refused, and the writer of the answers takes what they print; what is held then is the cut of its own bytes,
+-- all lines are run, with so many refused, E11 only where a growth was refused, and the writer of the answers takes what they print; what is held then is the cut of its own bytes,
 -- so that the file which a save writes is accepted, and loaded as what is held
 pub record RunsThrough (on_disk : Bool) (options : Options) (old new : Devices) (refused : ℕ) (end : State) : Type 0 where
   pub start : State
   pub script : List ℕ
   pub text : List ℕ
   pub begins : Begins on_disk options old new start script
-  pub lines : RunsWhole start script options.stop text refused end
-  pub from_scratch : ScratchSteps LineStep options.reading options.limits on_disk (saved start) (script_lines script) lines.printed (saved end)
+  pub lines : RunsWhole (WasRefused old.refused_growths new.refused_growths) start script options.stop text refused end
+  pub from_scratch : ScratchSteps (LineStep ⊤) options.reading options.limits on_disk (saved start) (script_lines script) lines.printed (saved end)
   pub cut : IsCut (bytes_of end.volume) options.reading options.limits end.volume
   pub printed : Takes old.answers new.answers text
 
@@ -66,8 +72,8 @@ pub record Stops (on_disk : Bool) (options : Options) (old new : Devices) (line 
   pub text : List ℕ
   pub begins : Begins on_disk options old new start script
   pub asked : IsTrue options.stop
-  pub lines : StopsAt start script line text end
-  pub from_scratch : ScratchSteps LineStep options.reading options.limits on_disk (saved start) (take line (script_lines script)) (lines.before ++ lines.last ∷ []) (saved end)
+  pub lines : StopsAt (WasRefused old.refused_growths new.refused_growths) start script line text end
+  pub from_scratch : ScratchSteps (LineStep ⊤) options.reading options.limits on_disk (saved start) (take line (script_lines script)) (lines.before ++ lines.last ∷ []) (saved end)
   pub printed : Takes old.answers new.answers text
   pub unsaved : new.out ≡ old.out
 
@@ -79,8 +85,8 @@ pub record LosesAnswer (on_disk : Bool) (options : Options) (old new : Devices) 
   pub script : List ℕ
   pub text : List ℕ
   pub begins : Begins on_disk options old new start script
-  pub lines : BreaksOff start script options.stop taken text end
-  pub from_scratch : ScratchSteps LineStep options.reading options.limits on_disk (saved start) (take (length lines.before + 1) (script_lines script)) (lines.before ++ lines.last ∷ []) (saved end)
+  pub lines : BreaksOff (WasRefused old.refused_growths new.refused_growths) start script options.stop taken text end
+  pub from_scratch : ScratchSteps (LineStep ⊤) options.reading options.limits on_disk (saved start) (take (length lines.before + 1) (script_lines script)) (lines.before ++ lines.last ∷ []) (saved end)
   pub printed : TakesPart old.answers new.answers text taken
   pub unsaved : new.out ≡ old.out
 

@@ -51,9 +51,9 @@ IsCauseOf (Unfit why) disk edits = ⊤
 IsCauseOf (Unsettled error) disk edits = disk ≡ true
 IsCauseOf (Failed error) disk edits = (disk ≡ true) ⊎ (edits ≡ true)
 
--- the reader of the volume, that of the script and the writer of the answers; nothing else is written
-abbrev pub reading_devices : Device → Device → Device → Devices
-reading_devices reader script answers = devices reader script answers (unread [])
+-- the reader of the volume, that of the script and the writer of the answers, and how often memory was refused; nothing else is written
+abbrev pub reading_devices : Device → Device → Device → ℕ → Devices
+reading_devices reader script answers refused_growths = devices reader script answers (unread []) refused_growths
 
 -- all lines were run: the edits make of the bytes that were loaded those that are held at the end
 abbrev pub RepairsThrough : Bool → Options → Devices → Devices → (refused : ℕ) → Repaired → Option Disk → Option Disk → Type 0

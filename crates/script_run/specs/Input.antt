@@ -1,7 +1,8 @@
 -- How lines are taken from a reader, of which some bytes are read ahead.
-use Rattle.std.specs.Prelude.{◌≡◌, ◌⊎◌, ℕ, ◌<◌, ◌≤◌, ◌-◌, ◌^◌, IfSome, Bool, true, false, not, if◌then◌else◌, ⊤, List, [], ◌∷◌, ◌++◌, length, Option, Some, None}
+use Rattle.std.specs.Prelude.{◌≡◌, ◌⊎◌, ℕ, ◌<◌, ◌≤◌, ◌-◌, ◌^◌, IfSome, IsTrue, Bool, true, false, not, if◌then◌else◌, ⊤, List, [], ◌∷◌, ◌++◌, length, Option, Some, None}
 use Rattle.std.specs.List.{list_any, before_first, after_first}
 use Rattle.std.specs.Io.KnownBytes.{prepend_known, Consumes, IsAtEnd}
+use Rattle.room.specs.Refusals.{WasRefused}
 use Rattle.script_text.specs.Devices.{count_in_64_bits}
 use Rattle.script_words.specs.Words.{is_line_feed}
 use Rattle.script_run.specs.declared.line_read.LineRead.{LineRead}
@@ -68,6 +69,10 @@ nothing_held = record { length = 0; is_lost = false; bytes = [] }
 pub record Holds (held : Held) (line : List ℕ) : Type 0 where
   pub length_is : held.length ≡ count_in_64_bits (length line)
   pub bytes_are : held.is_lost ≡ false → held.bytes ≡ line
+
+-- where the line is lost, it is too long, or a growth was refused between these two counts
+abbrev pub IsLostWithCause : Held → ℕ → ℕ → Type 0
+IsLostWithCause held first last = IsTrue held.is_lost → (16777216 < held.length) ⊎ WasRefused first last
 
 -- what stands in front of the first line feed, and what behind it; all and nothing where there is none
 abbrev pub IsFront : List ℕ → List ℕ → List ℕ → Bool → Type 0

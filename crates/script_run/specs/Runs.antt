@@ -1,6 +1,7 @@
 -- A script run over a volume, line by line.
 use Rattle.std.specs.Prelude.{◌≡◌, ◌⊎◌, ℕ, Bool, true, false, if◌then◌else◌, IsTrue, ◌+◌, ◌<◌, ◌≤◌, List, [], ◌∷◌, ◌++◌, length, take, flat_map, count_by, Option, Some, None, Result, Ok, Err, IfOk, ⊤}
 use Rattle.bench_rules.specs.declared.refusal.Refusal.{Refusal}
+use Rattle.bench_rules.specs.declared.refusal.Refusal.TheVariants as edit_refusals
 use Rattle.bench_rules.specs.State.{State}
 use Rattle.bench_rules.specs.Steps.{Step, told_of}
 use Rattle.bench_rules.specs.Answer.{Reply, IsReply}
@@ -18,6 +19,7 @@ use Rattle.shown_floats.specs.Shows.{Shows, IsList, IsOther}
 use Rattle.script_words.specs.declared.command.Command.{Command}
 use Rattle.script_words.specs.declared.command.Command.TheVariants.{Apply, Ask}
 use Rattle.script_words.specs.declared.line_fault.LineFault.{LineFault}
+use Rattle.script_words.specs.declared.line_fault.LineFault.TheVariants as line_faults
 use Rattle.script_words.specs.Words.{script_lines}
 use Rattle.script_words.specs.Commands.{IsParsed}
 use Rattle.bench_rules.specs.declared.answer.Answer.TheVariants as answers
@@ -90,24 +92,36 @@ abbrev pub HasTraces : State → Held → Type 0
 HasTraces s (replies.Section section) = AreRising 1 (count_of s.volume) section.traces
 HasTraces s reply = ⊤
 
--- a command with what it prints: an edit is one step, and tells of how many traces it was where it is one of chosen traces under
--- conditions; a query changes nothing
-abbrev pub CommandStep : State → Command → Printed → State → Type 0
-CommandStep old (Apply edit) printed new =
-    (reply : Result (Option ℕ) Refusal) × Step old edit reply new × (printed ≡ edit_reply reply) × IfOk reply (λ told. told ≡ told_of old edit)
-CommandStep old (Ask query) printed new =
-    (reply : Reply) × IsReply old query reply × IsPrintedIn old query reply printed × (new ≡ old)
+-- the query is answered, and yet the line is refused: there was no memory for the words of its floats. A section is left out: a read may
+-- refuse one of its rows
+abbrev pub LacksWords : Query → Reply → Printed → Type 0
+LacksWords query (Ok answer) printed = (asks_for_section query ≡ false) × IsTrue printed.is_refusal
+LacksWords query (Err fault) printed = ⊥
 
--- a line that was read, with what it prints
-abbrev pub ReadStep : State → Result (Option Command) LineFault → Printed → State → Type 0
-ReadStep old (Ok None) printed new = (printed ≡ nothing) × (new ≡ old)
-ReadStep old (Ok (Some command)) printed new = CommandStep old command printed new
-ReadStep old (Err fault) printed new = (printed ≡ fault_reply fault) × (new ≡ old)
+-- each of these may tell of want of memory (E11) for this cause alone
+module _ (Cause : Type 0) where
+  -- a command with what it prints: an edit is one step, and tells of how many traces it was where it is one of chosen traces under
+  -- conditions; a query changes nothing
+  abbrev pub CommandStep : State → Command → Printed → State → Type 0
+  CommandStep old (Apply edit) printed new =
+      (reply : Result (Option ℕ) Refusal) × Step old edit reply new × (printed ≡ edit_reply reply) × IfOk reply (λ told. told ≡ told_of old edit)
+      × (reply ≡ Err edit_refusals.OutOfMemory → Cause)
+  CommandStep old (Ask query) printed new =
+      (reply : Reply) × IsReply old query reply × IsPrintedIn old query reply printed × (new ≡ old)
+      × (reply ≡ Err OutOfMemory → Cause) × (LacksWords query reply printed → Cause)
 
--- a line with what it prints
-abbrev pub LineStep : State → List ℕ → Printed → State → Type 0
-LineStep old line printed new =
-    (read : Result (Option Command) LineFault) × IsParsed (float_format old.volume.head.format) (count_of old.volume) line read × ReadStep old read printed new
+  -- a line that was read, with what it prints
+  abbrev pub ReadStep : State → Result (Option Command) LineFault → Printed → State → Type 0
+  ReadStep old (Ok None) printed new = (printed ≡ nothing) × (new ≡ old)
+  ReadStep old (Ok (Some command)) printed new = CommandStep old command printed new
+  ReadStep old (Err fault) printed new = (printed ≡ fault_reply fault) × (new ≡ old) × (fault ≡ line_faults.OutOfMemory → Cause)
+
+  -- a line with what it prints
+  abbrev pub LineStep : State → List ℕ → Printed → State → Type 0
+  LineStep old line printed new =
+      (read : Result (Option Command) LineFault) × IsParsed (float_format old.volume.head.format) (count_of old.volume) line read × ReadStep old read printed new
+
+-- ---- lines
 
 module _ {S L : Type 0} where
   -- lines one after another, each by such a step, with what each prints
@@ -117,9 +131,9 @@ module _ {S L : Type 0} where
   StepsBy step old (line ∷ lines) [] new = ⊥
   StepsBy step old (line ∷ lines) (p ∷ ps) new = (mid : S) × step old line p mid × StepsBy step mid lines ps new
 
--- the lines one after another, with what each prints
-abbrev pub LineSteps : State → List (List ℕ) → List Printed → State → Type 0
-LineSteps old lines printed new = StepsBy LineStep old lines printed new
+-- the lines one after another, with what each prints, E11 for this cause alone
+abbrev pub LineSteps : Type 0 → State → List (List ℕ) → List Printed → State → Type 0
+LineSteps Cause old lines printed new = StepsBy (LineStep Cause) old lines printed new
 
 -- all that the lines print
 abbrev pub printed_text : List Printed → List ℕ
@@ -129,29 +143,29 @@ printed_text ps = flat_map (λ p. p.text) ps
 abbrev pub refusals : List Printed → ℕ
 refusals ps = count_by (λ p. p.is_refusal) ps
 
--- the whole script is run: what it prints, and how many of its lines are refused; none, if a refusal stops it
-pub record RunsWhole (old : State) (script : List ℕ) (stop : Bool) (text : List ℕ) (number : ℕ) (new : State) : Type 0 where
+-- the whole script is run: what it prints, E11 for this cause alone, and how many of its lines are refused; none, if a refusal stops it
+pub record RunsWhole (Cause : Type 0) (old : State) (script : List ℕ) (stop : Bool) (text : List ℕ) (number : ℕ) (new : State) : Type 0 where
   pub printed : List Printed
-  pub steps : LineSteps old (script_lines script) printed new
+  pub steps : LineSteps Cause old (script_lines script) printed new
   pub text_is : text ≡ printed_text printed
   pub number_is : number ≡ refusals printed
   pub goes_on : IsTrue stop → number ≡ 0
 
--- the script is run up to this line, counted from 1, which is the first that is refused
-pub record StopsAt (old : State) (script : List ℕ) (line : ℕ) (text : List ℕ) (new : State) : Type 0 where
+-- the script is run up to this line, counted from 1, which is the first that is refused; E11 for this cause alone
+pub record StopsAt (Cause : Type 0) (old : State) (script : List ℕ) (line : ℕ) (text : List ℕ) (new : State) : Type 0 where
   pub before : List Printed
   pub last : Printed
-  pub steps : LineSteps old (take line (script_lines script)) (before ++ last ∷ []) new
+  pub steps : LineSteps Cause old (take line (script_lines script)) (before ++ last ∷ []) new
   pub line_is : line ≡ length before + 1
   pub text_is : text ≡ printed_text (before ++ last ∷ [])
   pub none_before : refusals before ≡ 0
   pub refused_last : IsTrue last.is_refusal
 
--- the script is run up to a line whose text the writer does not take whole: it takes `written` bytes of what is printed
-pub record BreaksOff (old : State) (script : List ℕ) (stop : Bool) (written : ℕ) (text : List ℕ) (new : State) : Type 0 where
+-- the script is run up to a line whose text the writer does not take whole: it takes `written` bytes of what is printed; E11 for this cause alone
+pub record BreaksOff (Cause : Type 0) (old : State) (script : List ℕ) (stop : Bool) (written : ℕ) (text : List ℕ) (new : State) : Type 0 where
   pub before : List Printed
   pub last : Printed
-  pub steps : LineSteps old (take (length before + 1) (script_lines script)) (before ++ last ∷ []) new
+  pub steps : LineSteps Cause old (take (length before + 1) (script_lines script)) (before ++ last ∷ []) new
   pub text_is : text ≡ printed_text (before ++ last ∷ [])
   pub goes_on : IsTrue stop → refusals before ≡ 0
   pub taken_before : length (printed_text before) ≤ written

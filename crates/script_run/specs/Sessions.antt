@@ -1,6 +1,8 @@
 -- A session: the lines of a reader are answered one by one, with an empty line behind each answer.
 use Rattle.std.specs.Prelude.{◌≡◌, ◌⊎◌, ℕ, ◌<◌, ◌≤◌, ◌+◌, ⊤, Bool, true, false, IsTrue, not, ◌&&◌, List, [], ◌∷◌, ◌++◌, length, take, codes, Option, IfSome, Result, Ok, Err}
+use Rattle.room.specs.Refusals.{WasRefused}
 use Rattle.frame_cut.specs.declared.load_fault.LoadFault.{LoadFault}
+use Rattle.frame_cut.specs.declared.load_fault.LoadFault.TheVariants as load_faults
 use Rattle.frame_cut.specs.Cuts.{IsCut}
 use Rattle.frame_cut.specs.Volume.{bytes_of}
 use Rattle.bench_rules.specs.State.{State}
@@ -46,39 +48,41 @@ SaveStep old printed new =
 
 -- ---- one line
 
--- a line that says this to the session: `save` saves, `save` with more words is S02, and any other line is answered as one of a script
-abbrev pub WordStep : SessionWord → Standing → List ℕ → Printed → Standing → Type 0
-WordStep Save old line printed new = SaveStep old printed new
-WordStep SaveWithMore old line printed new = (printed ≡ fault_reply Words) × (new ≡ old)
-WordStep Other old line printed new = LineStep old.state line printed new.state × (new.out ≡ old.out)
-
--- a line that is not too long: where its line feed is missing it is not run, and S06; else it is answered, or E11 where no memory holds it
-abbrev pub EndedStep : Bool → Standing → List ℕ → Printed → Standing → Type 0
-EndedStep false old text printed new = (printed ≡ session_reply (Err CutOff)) × (new ≡ old)
-EndedStep true old text printed new =
-    WordStep (session_word_of (without_return text)) old (without_return text) printed new ⊎ ((printed ≡ fault_reply OutOfMemory) × (new ≡ old))
-
--- a line with its answer: one of more than 16777216 bytes is S05, whatever it holds
-abbrev pub AnswerStep : Standing → SessionLine → Printed → Standing → Type 0
-AnswerStep old line printed new =
-    ((16777216 < length line.text) × (printed ≡ fault_reply TooLarge) × (new ≡ old))
-    ⊎ ((length line.text ≤ 16777216) × EndedStep line.has_end old line.text printed new)
-
 -- an answer with an empty line behind it
 abbrev pub with_empty_line : Printed → Printed
 with_empty_line answer = followed_by (codes "\n") answer
 
--- a line with what is printed for it
-abbrev pub SessionStep : Standing → SessionLine → Printed → Standing → Type 0
-SessionStep old line printed new = (answer : Printed) × AnswerStep old line answer new × (printed ≡ with_empty_line answer)
+-- each of these may tell of want of memory (E11) for this cause alone
+module _ (Cause : Type 0) where
+  -- a line that says this to the session: `save` saves, `save` with more words is S02, and any other line is answered as one of a script
+  abbrev pub WordStep : SessionWord → Standing → List ℕ → Printed → Standing → Type 0
+  WordStep Save old line printed new = SaveStep old printed new
+  WordStep SaveWithMore old line printed new = (printed ≡ fault_reply Words) × (new ≡ old)
+  WordStep Other old line printed new = LineStep Cause old.state line printed new.state × (new.out ≡ old.out)
 
--- the lines one after another, with what is printed for each
-abbrev pub SessionSteps : Standing → List SessionLine → List Printed → Standing → Type 0
-SessionSteps old lines printed new = StepsBy SessionStep old lines printed new
+  -- a line that is not too long: where its line feed is missing it is not run, and S06; else it is answered, or E11 where no memory holds it
+  abbrev pub EndedStep : Bool → Standing → List ℕ → Printed → Standing → Type 0
+  EndedStep false old text printed new = (printed ≡ session_reply (Err CutOff)) × (new ≡ old)
+  EndedStep true old text printed new =
+      WordStep (session_word_of (without_return text)) old (without_return text) printed new ⊎ ((printed ≡ fault_reply OutOfMemory) × (new ≡ old) × Cause)
+
+  -- a line with its answer: one of more than 16777216 bytes is S05, whatever it holds
+  abbrev pub AnswerStep : Standing → SessionLine → Printed → Standing → Type 0
+  AnswerStep old line printed new =
+      ((16777216 < length line.text) × (printed ≡ fault_reply TooLarge) × (new ≡ old))
+      ⊎ ((length line.text ≤ 16777216) × EndedStep line.has_end old line.text printed new)
+
+  -- a line with what is printed for it
+  abbrev pub SessionStep : Standing → SessionLine → Printed → Standing → Type 0
+  SessionStep old line printed new = (answer : Printed) × AnswerStep old line answer new × (printed ≡ with_empty_line answer)
+
+-- the lines one after another, with what is printed for each, E11 for this cause alone
+abbrev pub SessionSteps : Type 0 → Standing → List SessionLine → List Printed → Standing → Type 0
+SessionSteps Cause old lines printed new = StepsBy (SessionStep Cause) old lines printed new
 
 -- a line with what is printed for it, wherever the saves go
 abbrev pub VolumeStep : State → SessionLine → Printed → State → Type 0
-VolumeStep old line printed new = (before : Place) × (after : Place) × SessionStep (standing old before) line printed (standing new after)
+VolumeStep old line printed new = (before : Place) × (after : Place) × SessionStep ⊤ (standing old before) line printed (standing new after)
 
 -- an answer is lines none of which is empty, with an empty line behind them
 pub record IsAnswer (printed : List ℕ) : Type 0 where
@@ -103,30 +107,32 @@ AllLines known lines = IfSome known (λ bytes. session_lines bytes ≡ lines)
 
 -- ---- the ends
 
--- the readers of the volume and of the lines, the writer of the answers, and where the saves go: OUT, or FILE itself
+-- the readers of the volume and of the lines, the writer of the answers, where the saves go: OUT, or FILE itself, and how often a growth was refused
 pub record SessionDevices : Type 0 where
   pub reader : Device
   pub script : Device
   pub answers : Device
   pub out : Place
+  pub refused_growths : ℕ
 
 -- these, of a session
-abbrev pub session_devices : Device → Device → Device → Place → SessionDevices
-session_devices reader script answers out = record { reader = reader; script = script; answers = answers; out = out }
+abbrev pub session_devices : Device → Device → Device → Place → ℕ → SessionDevices
+session_devices reader script answers out refused_growths = record { reader = reader; script = script; answers = answers; out = out; refused_growths = refused_growths }
 
--- the volume is refused: no line is read, and OUT is as it was
+-- the volume is refused, with L16 only where a growth was refused: no line is read, and OUT is as it was
 pub record RefusesSession (options : Options) (old new : SessionDevices) (fault : LoadFault) : Type 0 where
   pub refused : IsLoadRefused old.reader new.reader options.reading options.limits fault
   pub unread : new.script ≡ old.script
   pub unsaved : new.out ≡ old.out
+  pub memory : fault ≡ load_faults.OutOfMemory → WasRefused old.refused_growths new.refused_growths
 
--- the volume is loaded, and the first lines of the reader are answered; what is held then is the cut of its own bytes
+-- the volume is loaded, and the first lines of the reader are answered, E11 only where a growth was refused; what is held then is the cut of its own bytes
 pub record AnswersLines (on_disk : Bool) (options : Options) (old new : SessionDevices) (lines : List SessionLine) (printed : List Printed) (end : Standing) : Type 0 where
   pub start : State
   pub loaded : Loads old.reader new.reader options.reading options.limits on_disk start
   pub follows : Follows old.out (bytes_of start.volume)
   pub given : FirstLines old.script.bytes lines
-  pub steps : SessionSteps (standing start old.out) lines printed end
+  pub steps : SessionSteps (WasRefused old.refused_growths new.refused_growths) (standing start old.out) lines printed end
   pub from_scratch : ScratchSteps VolumeStep options.reading options.limits on_disk (saved start) lines printed (saved end.state)
   pub cut : IsCut (bytes_of end.state.volume) options.reading options.limits end.state.volume
   pub full : AreAnswers printed

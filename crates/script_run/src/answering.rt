@@ -1,10 +1,11 @@
 // Answers the lines of a session.
-ghost use Rattle.std.specs.Prelude.{◌≡◌, ℕ, List, IsTrue, true, false};
+ghost use Rattle.std.specs.Prelude.{◌≡◌, ◌≤◌, ℕ, List, IsTrue, true, false};
+ghost use Rattle.room.specs.Refusals.{WasRefused};
 ghost use Rattle.live_volume.specs.Held.{IsReadAs};
 ghost use Rattle.script_text.specs.Devices.{device_of};
 ghost use Rattle.script_text.specs.Replies.{Printed};
 ghost use Rattle.script_words.specs.SessionWords.{session_word_of};
-ghost use Rattle.script_run.specs.Input.{Holds, Held, line_of};
+ghost use Rattle.script_run.specs.Input.{Holds, Held, IsLostWithCause, line_of};
 ghost use Rattle.script_run.specs.Runs.{HasTraces, Prints};
 ghost use Rattle.script_run.specs.Sessions.{standing, AnswerStep, SessionStep, WordStep};
 ghost use Rattle.script_run.specs.declared.session_lines.SessionLines.TheVariants.{Script, Whole};
@@ -22,15 +23,15 @@ use crate::session_lines::SessionLines;
 use crate::told::{Told, write_reply};
 use bench_core::Bench;
 use device_io::{Sink, Source, WriteFault};
+use room::Room;
 use script_text::{OutBuffer, Reply, ScriptFault, SessionFault};
 use script_words::{LineFault, SessionWord, session_word, strip_return};
-use std::alloc::Global;
 use std::io::{Read, Write};
 
 /// Answers the lines of the reader in order, and writes the whole answer to each, with an empty
 /// line behind it, before the next is read.
 pub(crate) fn answer_lines<S: Read, A: Write, P: Saves>(
-    alloc: Global,
+    room: &mut Room,
     bench: &mut Bench,
     script: &mut Source<S>,
     answers: &mut Sink<A>,
@@ -38,27 +39,29 @@ pub(crate) fn answer_lines<S: Read, A: Write, P: Saves>(
     stop: bool,
 ) -> SessionLines
     ensures lines { IsTrue bench.new.agreed →
-        AnswersTo (standing bench.old.state (P.place place.old bench.old.loaded))
+        AnswersTo (WasRefused room.old room.new)
+        (standing bench.old.state (P.place place.old bench.old.loaded))
         (standing bench.new.state (P.place place.new bench.new.loaded)) stop
         (device_of S.remaining script.old) (device_of S.remaining script.new)
         (device_of A.contents answers.old) (device_of A.contents answers.new) result }
     ensures same { IsReadAs bench.old.state bench.new.state }
     ensures agreed { IsTrue bench.new.agreed → IsTrue bench.old.agreed }
     ensures loaded { bench.new.loaded ≡ bench.old.loaded }
+    ensures never_falls { room.old ≤ room.new }
 {
     let mut ahead = ReadAhead::new();
-    let mut line = HeldLine::new(alloc);
+    let mut line = HeldLine::new(room.alloc());
     let mut out = OutBuffer::new();
     let mut refused = 0u64;
     let mut written = 0u64;
     'lines: for number in 0..u64::MAX {
-        let has_end = match next_line(&mut ahead, script, &mut line) {
+        let has_end = match next_line(room, &mut ahead, script, &mut line) {
             Next::Line { has_end } => has_end,
             Next::End => return whole(refused),
             Next::Failed => return broken(ScriptFault::ReadFailed, written),
             Next::Endless => return broken(ScriptFault::TooLarge, written),
         };
-        match answer(alloc, bench, place, &line, has_end, &mut out, answers) {
+        match answer(room, bench, place, &line, has_end, &mut out, answers) {
             Ok(told) => {
                 written = written.saturating_add(told.length);
                 if told.is_refusal {
@@ -107,7 +110,7 @@ fn broken(fault: ScriptFault, written: u64) -> SessionLines
 
 // Answers one line, and writes the answer with an empty line behind it.
 fn answer<A: Write, P: Saves>(
-    alloc: Global,
+    room: &mut Room,
     bench: &mut Bench,
     place: &mut P,
     line: &HeldLine,
@@ -117,7 +120,9 @@ fn answer<A: Write, P: Saves>(
 ) -> Result<Told, WriteFault>
     ensures line { IsTrue bench.new.agreed → (printed : Printed)
         × ((text : List ℕ) → Holds line.now text →
-        SessionStep (standing bench.old.state (P.place place.old bench.old.loaded))
+        (first : ℕ) → first ≤ room.old → IsLostWithCause line.now first room.old →
+        SessionStep (WasRefused first room.new)
+        (standing bench.old.state (P.place place.old bench.old.loaded))
         (line_of text has_end) printed
         (standing bench.new.state (P.place place.new bench.new.loaded)))
         × IsWritten (device_of A.contents answers.old) (device_of A.contents answers.new)
@@ -125,14 +130,15 @@ fn answer<A: Write, P: Saves>(
     ensures same { IsReadAs bench.old.state bench.new.state }
     ensures agreed { IsTrue bench.new.agreed → IsTrue bench.old.agreed }
     ensures loaded { bench.new.loaded ≡ bench.old.loaded }
+    ensures never_falls { room.old ≤ room.new }
 {
-    let reply = reply_to(alloc, bench, place, line, has_end);
+    let reply = reply_to(room, bench, place, line, has_end);
     write_reply(bench, out, answers, &reply, b"\n")
 }
 
 // The reply to one line. The last one, where it lacks its line feed, is not run.
 fn reply_to<P: Saves>(
-    alloc: Global,
+    room: &mut Room,
     bench: &mut Bench,
     place: &mut P,
     line: &HeldLine,
@@ -140,37 +146,42 @@ fn reply_to<P: Saves>(
 ) -> Reply
     ensures step { IsTrue bench.new.agreed → (printed : Printed) →
         Prints bench.new.state result printed → (text : List ℕ) → Holds line.now text →
-        AnswerStep (standing bench.old.state (P.place place.old bench.old.loaded))
+        (first : ℕ) → first ≤ room.old → IsLostWithCause line.now first room.old →
+        AnswerStep (WasRefused first room.new)
+        (standing bench.old.state (P.place place.old bench.old.loaded))
         (line_of text has_end)
         printed (standing bench.new.state (P.place place.new bench.new.loaded)) }
     ensures there { IsTrue bench.new.agreed → HasTraces bench.new.state result }
     ensures same { IsReadAs bench.old.state bench.new.state }
     ensures agreed { IsTrue bench.new.agreed → IsTrue bench.old.agreed }
     ensures loaded { bench.new.loaded ≡ bench.old.loaded }
+    ensures never_falls { room.old ≤ room.new }
 {
     match line.read() {
         LineRead::TooLarge => Reply::Fault(LineFault::TooLarge),
         LineRead::Text if !has_end => Reply::Session(Err(SessionFault::CutOff)),
         LineRead::Lost if !has_end => Reply::Session(Err(SessionFault::CutOff)),
-        LineRead::Text => reply_to_text(alloc, bench, place, strip_return(line.bytes())),
+        LineRead::Text => reply_to_text(room, bench, place, strip_return(line.bytes())),
         LineRead::Lost => Reply::Fault(LineFault::OutOfMemory),
     }
 }
 
 // The reply to a line that was read whole.
-fn reply_to_text<P: Saves>(alloc: Global, bench: &mut Bench, place: &mut P, line: &[u8]) -> Reply
+fn reply_to_text<P: Saves>(room: &mut Room, bench: &mut Bench, place: &mut P, line: &[u8]) -> Reply
     ensures step { IsTrue bench.new.agreed → (printed : Printed) →
-        Prints bench.new.state result printed → WordStep (session_word_of line.now)
+        Prints bench.new.state result printed →
+        WordStep (WasRefused room.old room.new) (session_word_of line.now)
         (standing bench.old.state (P.place place.old bench.old.loaded)) line.now
         printed (standing bench.new.state (P.place place.new bench.new.loaded)) }
     ensures there { IsTrue bench.new.agreed → HasTraces bench.new.state result }
     ensures same { IsReadAs bench.old.state bench.new.state }
     ensures agreed { IsTrue bench.new.agreed → IsTrue bench.old.agreed }
     ensures loaded { bench.new.loaded ≡ bench.old.loaded }
+    ensures never_falls { room.old ≤ room.new }
 {
     match session_word(line) {
-        SessionWord::Save => Reply::Session(place.save(alloc, bench)),
+        SessionWord::Save => Reply::Session(place.save(room, bench)),
         SessionWord::SaveWithMore => Reply::Fault(LineFault::Words),
-        SessionWord::Other => run_line(alloc, bench, line),
+        SessionWord::Other => run_line(room, bench, line),
     }
 }

@@ -1,8 +1,10 @@
 // A line of a session as it is read.
-ghost use Rattle.std.specs.Prelude.{◌≡◌, ◌==◌, ◌++◌, ℕ, List, length};
-ghost use Rattle.script_run.specs.Input.{nothing_held, Holds, IsReadAs};
+ghost use Rattle.std.specs.Prelude.{◌≡◌, ◌≤◌, ◌==◌, ◌++◌, ℕ, List, IsTrue, length};
+ghost use Rattle.script_run.specs.Input.{nothing_held, Holds, IsLostWithCause, IsReadAs};
+ghost use Rattle.script_run.specs.declared.line_read.LineRead.TheVariants.{Lost};
 
 use crate::line_read::LineRead;
+use room::Room;
 use std::alloc::Global;
 use std::marker::Model;
 
@@ -54,18 +56,27 @@ impl HeldLine {
 
     /// Puts more bytes of the line behind those that were read. Takes memory for them; where a
     /// growth is refused, or where they are too many, the line's bytes are lost.
-    pub(crate) fn add(&mut self, part: &[u8])
-        ensures { (line : List ℕ) → Holds self.old line → Holds self.new (line ++ part.now) }
+    pub(crate) fn add(&mut self, room: &mut Room, part: &[u8])
+        ensures held { (line : List ℕ) → Holds self.old line → Holds self.new (line ++ part.now) }
+        ensures lost { (first : ℕ) → first ≤ room.old → IsLostWithCause self.old first room.old →
+            IsLostWithCause self.new first room.new }
+        ensures never_falls { room.old ≤ room.new }
     {
         self.length = self.length.saturating_add(part.len() as u64);
-        if self.length > MOST_BYTES || self.is_lost || self.bytes.extend_from_slice(part).is_err() {
+        if self.length > MOST_BYTES || self.is_lost {
             self.is_lost = true;
+            return;
         }
+        let Ok(()) = room.told(self.bytes.extend_from_slice(part)) else {
+            self.is_lost = true;
+            return;
+        };
     }
 
     /// How the line was read.
     pub(crate) fn read(&self) -> LineRead
-        ensures { (line : List ℕ) → Holds self.now line → IsReadAs result self.now line }
+        ensures read { (line : List ℕ) → Holds self.now line → IsReadAs result self.now line }
+        ensures lost { result ≡ Lost → IsTrue self.now.is_lost × (self.now.length ≤ 16777216) }
     {
         if self.length > MOST_BYTES {
             LineRead::TooLarge

@@ -1,5 +1,6 @@
 // Runs behind whose last line FILE itself is repaired.
-ghost use Rattle.std.specs.Prelude.{◌≡◌, length, true, false, Err, IsTrue, IfOk, IfErr, OnErr, List, ℕ, Bool};
+ghost use Rattle.std.specs.Prelude.{◌≡◌, ◌≤◌, length, true, false, Err, IsErrAnd, IsTrue, IfOk, IfErr, OnErr, List, ℕ, Bool};
+ghost use Rattle.room.specs.Refusals.{Rises};
 ghost use Rattle.live_volume.specs.Held.{IsReadAs};
 ghost use Rattle.edit_pieces.specs.declared.repaired.Repaired.TheVariants.{NotBegun};
 ghost use Rattle.frame_cut.specs.Volume.{bytes_of};
@@ -24,11 +25,12 @@ use bench_laws::steps_stay_cut;
 use device_io::{Sink, Source};
 use edit_overlay::PassFault;
 use edit_pieces::Repaired;
+use frame_cut::LoadFault;
 use journal_codes::PIECE_ROOM;
 use journal_save::Disk;
+use room::Room;
 use script_hints::Notes;
 use script_text::{RunEnd, load_fault_line, script_fault_line};
-use std::alloc::Global;
 use std::fs::File;
 use std::io::{Read, Write};
 
@@ -46,30 +48,31 @@ pub struct RepairRun {
 ///
 /// The edits have to leave the order, the number and the lengths of the traces as they were, and
 /// else `repaired` is `Unfit` and nothing is written. That FILE still holds the bytes that were
-/// loaded is the disk's to see. `room` holds one piece. Takes memory as `run`; the repair none.
+/// loaded is the disk's to see. `piece` has room for one piece. Takes memory as `run`; the repair
+/// none.
 pub fn run_in_place<R: Read, S: Read, A: Write, D: Disk>(
-    alloc: Global,
+    room: &mut Room,
     reader: &mut Source<R>,
     script: &mut Source<S>,
     answers: &mut Sink<A>,
     disk: &mut D,
-    room: &mut [u8],
+    piece: &mut [u8],
     options: Options,
     notes: &mut Notes,
 ) -> RepairRun
-    requires room { length room.old ≡ PIECE_ROOM }
+    requires piece { length piece.old ≡ PIECE_ROOM }
     ensures run { RunsInPlace false options
         (reading_devices (device_of R.remaining reader.old) (device_of S.remaining script.old)
-        (device_of A.contents answers.old))
+        (device_of A.contents answers.old) room.old)
         (reading_devices (device_of R.remaining reader.new) (device_of S.remaining script.new)
-        (device_of A.contents answers.new))
+        (device_of A.contents answers.new) room.new)
         result.end result.repaired (D.disk disk.old) (D.disk disk.new) }
     ensures cause { ComesOfFailure result.repaired (D.failed disk.new) }
 {
-    match load(alloc, reader, options) {
+    match load(room, reader, options) {
         Ok(mut bench) => {
             let run = loaded_in_place(
-                alloc, &mut bench, script, answers, disk, room, options, notes,
+                room, &mut bench, script, answers, disk, piece, options, notes,
             );
             // The law by which each read of bytes in memory agrees, for the proof.
             bench.memory_agrees();
@@ -93,51 +96,52 @@ fn not_begun(end: RunEnd) -> RepairRun
 
 // What follows the load.
 fn loaded_in_place<S: Read, A: Write, D: Disk>(
-    alloc: Global,
+    room: &mut Room,
     bench: &mut Bench,
     script: &mut Source<S>,
     answers: &mut Sink<A>,
     disk: &mut D,
-    room: &mut [u8],
+    piece: &mut [u8],
     options: Options,
     notes: &mut Notes,
 ) -> RepairRun
-    requires room { length room.old ≡ PIECE_ROOM }
-    ensures run { (before after : Device) →
+    requires piece { length piece.old ≡ PIECE_ROOM }
+    ensures run { (before after : Device) (refusals : ℕ) → refusals ≤ room.old →
         Loads before after options.reading options.limits bench.old.state.on_disk
         bench.old.state → bench.old.loaded ≡ bytes_of bench.old.state.volume →
         IsTrue bench.new.agreed → RunsInPlace bench.old.state.on_disk options
         (reading_devices before (device_of S.remaining script.old)
-        (device_of A.contents answers.old))
+        (device_of A.contents answers.old) refusals)
         (reading_devices after (device_of S.remaining script.new)
-        (device_of A.contents answers.new))
+        (device_of A.contents answers.new) room.new)
         result.end result.repaired (D.disk disk.old) (D.disk disk.new) }
     ensures same { IsReadAs bench.old.state bench.new.state }
     ensures agreed { IsTrue bench.new.agreed → IsTrue bench.old.agreed }
     ensures loaded { bench.new.loaded ≡ bench.old.loaded }
     ensures cause { ComesOfFailure result.repaired (D.failed disk.new) }
+    ensures never_falls { room.old ≤ room.new }
 {
     // The law by which each line is answered as from scratch, for the proof.
     steps_stay_cut();
-    let lines = match read_script(alloc, script) {
+    let lines = match read_script(room, script) {
         Ok(lines) => lines,
         Err(fault) => {
             return not_begun(tell(answers, &script_fault_line(fault), RunEnd::Script(fault)));
         }
     };
-    match run_lines(alloc, bench, lines.as_slice(), answers, options.stop, notes) {
+    match run_lines(room, bench, lines.as_slice(), answers, options.stop, notes) {
         LinesEnd::Stopped { line } => not_begun(RunEnd::Stopped { line }),
         LinesEnd::Answers { written } => not_begun(RunEnd::Answers { written }),
         LinesEnd::Whole { refused } => RepairRun {
             end: RunEnd::Done { refused },
-            repaired: repaired(bench, disk, room, options.save),
+            repaired: repaired(bench, disk, piece, options.save),
         },
     }
 }
 
 // Repairs FILE, where that is asked for.
-fn repaired<D: Disk>(bench: &Bench, disk: &mut D, room: &mut [u8], is_asked: bool) -> Repaired
-    requires room { length room.old ≡ PIECE_ROOM }
+fn repaired<D: Disk>(bench: &Bench, disk: &mut D, piece: &mut [u8], is_asked: bool) -> Repaired
+    requires piece { length piece.old ≡ PIECE_ROOM }
     ensures repairs { Repairs is_asked bench.now.loaded (bytes_of bench.now.state.volume) result
         (D.disk disk.old) (D.disk disk.new) }
     ensures cause { ComesOfFailure result (D.failed disk.new) }
@@ -146,7 +150,7 @@ fn repaired<D: Disk>(bench: &Bench, disk: &mut D, room: &mut [u8], is_asked: boo
         return Repaired::NotBegun;
     }
     match edits_of(bench) {
-        Ok(mut edits) => repair_by(disk, &mut edits, room),
+        Ok(mut edits) => repair_by(disk, &mut edits, piece),
         Err(why) => Repaired::Unfit(why),
     }
 }
@@ -173,22 +177,22 @@ impl DiskRepairRun {
 /// [`run_on_disk`](crate::run_on_disk) does, and repairs FILE behind it, as [`run_in_place`] does.
 /// The repair reads nothing of the volume.
 pub fn run_on_disk_in_place<S: Read, A: Write, D: Disk>(
-    alloc: Global,
+    room: &mut Room,
     file: File,
     size: u64,
     script: &mut Source<S>,
     answers: &mut Sink<A>,
     disk: &mut D,
-    room: &mut [u8],
+    piece: &mut [u8],
     options: Options,
     notes: &mut Notes,
 ) -> DiskRepairRun
-    requires room { length room.old ≡ PIECE_ROOM }
+    requires piece { length piece.old ≡ PIECE_ROOM }
     ensures run { IfOk result.volume (λ volume. IsTrue volume.agreed → RunsInPlace true options
         (reading_devices (unread volume.loaded) (device_of S.remaining script.old)
-        (device_of A.contents answers.old))
+        (device_of A.contents answers.old) room.old)
         (reading_devices read_whole (device_of S.remaining script.new)
-        (device_of A.contents answers.new))
+        (device_of A.contents answers.new) room.new)
         result.run.end result.run.repaired (D.disk disk.old) (D.disk disk.new)) }
     ensures size { IfOk result.volume (λ volume. length volume.loaded ≡ size) }
     ensures refused { IfErr result.volume (RefusesPass size options
@@ -196,11 +200,13 @@ pub fn run_on_disk_in_place<S: Read, A: Write, D: Disk>(
         (device_of A.contents answers.old) (device_of A.contents answers.new) result.run.end) }
     ensures unsaved { OnErr result.volume (D.disk disk.new ≡ D.disk disk.old) }
     ensures cause { ComesOfFailure result.run.repaired (D.failed disk.new) }
+    ensures memory { Rises (IsErrAnd result.volume (λ e. e.fault ≡ LoadFault.OutOfMemory))
+        room.old room.new }
 {
-    match load_on_disk(alloc, file, size, options) {
+    match load_on_disk(room, file, size, options) {
         Ok(mut bench) => {
             let run = loaded_in_place(
-                alloc, &mut bench, script, answers, disk, room, options, notes,
+                room, &mut bench, script, answers, disk, piece, options, notes,
             );
             DiskRepairRun {
                 run,

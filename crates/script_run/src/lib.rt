@@ -7,8 +7,9 @@
 //! same over a file whose bytes stay on disk, and give the volume back beside the end.
 //! [`run_in_place`] and [`run_on_disk_in_place`] repair FILE itself behind the last line, and so
 //! does a session whose saves go to [`InPlace`]; those of [`Outside`] go to OUT. They take
-//! memory for the volume and for lines, and tell want of it as L16, P03 or E11; to print a reply
-//! takes none. Lines count from 1, those that print nothing too; traces count from 1.
+//! memory for the volume and for lines, and tell want of it as L16, P03 or E11, only where a growth
+//! was refused in that call; to print a reply takes none. Lines count from 1, those that print
+//! nothing too; traces count from 1.
 #![tactic(auto)]
 
 mod answering;
@@ -44,7 +45,7 @@ pub use crate::on_disk::{load_on_disk, run_on_disk, session_on_disk};
 pub use crate::options::Options;
 pub use crate::saves::{Outside, Saves};
 pub use crate::session_repairs::InPlace;
-pub use crate::whole_run::{refuse_load, run, run_loaded};
+pub use crate::whole_run::{refuse_too_large, run, run_loaded};
 pub use crate::whole_session::{session, session_loaded};
 pub use bench_core::Bench;
 pub use script_text::RunEnd;

@@ -1,18 +1,20 @@
 // The next line of a reader.
-ghost use Rattle.std.specs.Prelude.{OnOk, IfOk};
+ghost use Rattle.std.specs.Prelude.{◌≤◌, OnOk, IfOk};
 ghost use Rattle.device_io.specs.Failures.{CountsFailure};
-ghost use Rattle.script_run.specs.Input.{left_of, KeepsTaken, WaitsOrEnds};
+ghost use Rattle.script_run.specs.Input.{left_of, IsLostWithCause, KeepsTaken, WaitsOrEnds};
 ghost use Rattle.script_run.specs.NextLine.{IsNext, FailuresAfterNext};
 
 use crate::held_line::HeldLine;
 use crate::next::Next;
 use crate::read_ahead::ReadAhead;
 use device_io::{Failed, Source};
+use room::Room;
 use std::io::Read;
 
 /// Reads the next line, without its line feed, as far as memory holds it, and tells whether it has
 /// one. Reads only where nothing is read ahead.
 pub(crate) fn next_line<S: Read>(
+    room: &mut Room,
     ahead: &mut ReadAhead,
     source: &mut Source<S>,
     line: &mut HeldLine,
@@ -20,6 +22,8 @@ pub(crate) fn next_line<S: Read>(
     ensures next { IsNext (left_of ahead.old (S.remaining source.old.inner))
         (left_of ahead.new (S.remaining source.new.inner)) line.new result }
     ensures failures { FailuresAfterNext result source.old.failures source.new.failures }
+    ensures lost { IsLostWithCause line.new room.old room.new }
+    ensures never_falls { room.old ≤ room.new }
 {
     line.clear();
     'parts: for _ in 0..u64::MAX {
@@ -29,7 +33,7 @@ pub(crate) fn next_line<S: Read>(
             Ok(false) => return Next::Line { has_end: false },
             Err(_) => return Next::Failed,
         }
-        if ahead.take_part(line) {
+        if ahead.take_part(room, line) {
             return Next::Line { has_end: true };
         }
     }

@@ -1,5 +1,6 @@
 // Runs and sessions over a file that stays on disk.
-ghost use Rattle.std.specs.Prelude.{◌≡◌, List, ℕ, length, true, Err, IsTrue, IfOk, IfErr, OnErr};
+ghost use Rattle.std.specs.Prelude.{◌≡◌, List, ℕ, length, true, Err, IsTrue, IfOk, IfErr, OnErr, IsErrAnd};
+ghost use Rattle.room.specs.Refusals.{Rises};
 ghost use Rattle.field_map.specs.Binding.{geometry_at_load};
 ghost use Rattle.frame_cut.specs.Cuts.{IsCut};
 ghost use Rattle.frame_cut.specs.Volume.{bytes_of};
@@ -19,10 +20,10 @@ use crate::whole_session::session_loaded;
 use bench_core::Bench;
 use device_io::{Sink, Source};
 use edit_overlay::PassFault;
+use frame_cut::LoadFault;
 use room::Room;
 use script_hints::Notes;
 use script_text::{RunEnd, load_fault_line};
-use std::alloc::Global;
 use std::fs::File;
 use std::io::{Read, Write};
 
@@ -35,7 +36,7 @@ use std::io::{Read, Write};
 /// the first reason that every file gives which has so many bytes and begins with those that were
 /// read, L16 for want of memory. Takes memory as `run`.
 pub fn run_on_disk<S: Read, A: Write, O: Write>(
-    alloc: Global,
+    room: &mut Room,
     file: File,
     size: u64,
     script: &mut Source<S>,
@@ -46,9 +47,9 @@ pub fn run_on_disk<S: Read, A: Write, O: Write>(
 ) -> DiskRun
     ensures run { IfOk result.volume (λ volume. IsTrue volume.agreed → Runs true options
         (devices (unread volume.loaded) (device_of S.remaining script.old)
-        (device_of A.contents answers.old) (device_of O.contents out.old))
+        (device_of A.contents answers.old) (device_of O.contents out.old) room.old)
         (devices read_whole (device_of S.remaining script.new)
-        (device_of A.contents answers.new) (device_of O.contents out.new))
+        (device_of A.contents answers.new) (device_of O.contents out.new) room.new)
         result.end) }
     ensures size { IfOk result.volume (λ volume. length volume.loaded ≡ size) }
     ensures refused { IfErr result.volume (RefusesPass size options
@@ -56,10 +57,12 @@ pub fn run_on_disk<S: Read, A: Write, O: Write>(
         (device_of A.contents answers.old) (device_of A.contents answers.new) result.end) }
     ensures unsaved { OnErr result.volume
         (device_of O.contents out.new ≡ device_of O.contents out.old) }
+    ensures memory { Rises (IsErrAnd result.volume (λ e. e.fault ≡ LoadFault.OutOfMemory))
+        room.old room.new }
 {
-    match load_on_disk(alloc, file, size, options) {
+    match load_on_disk(room, file, size, options) {
         Ok(mut bench) => {
-            let end = run_loaded(alloc, &mut bench, script, answers, out, options, notes);
+            let end = run_loaded(room, &mut bench, script, answers, out, options, notes);
             DiskRun {
                 end,
                 volume: Ok(bench),
@@ -72,7 +75,7 @@ pub fn run_on_disk<S: Read, A: Write, O: Write>(
 /// Answers the lines of a reader over a file that stays on disk, as
 /// [`session`](crate::session) does, and with what is said of [`run_on_disk`].
 pub fn session_on_disk<S: Read, A: Write, P: Saves>(
-    alloc: Global,
+    room: &mut Room,
     file: File,
     size: u64,
     script: &mut Source<S>,
@@ -82,9 +85,9 @@ pub fn session_on_disk<S: Read, A: Write, P: Saves>(
 ) -> DiskRun
     ensures session { IfOk result.volume (λ volume. IsTrue volume.agreed → Session true options
         (session_devices (unread volume.loaded) (device_of S.remaining script.old)
-        (device_of A.contents answers.old) (P.place place.old volume.loaded))
+        (device_of A.contents answers.old) (P.place place.old volume.loaded) room.old)
         (session_devices read_whole (device_of S.remaining script.new)
-        (device_of A.contents answers.new) (P.place place.new volume.loaded))
+        (device_of A.contents answers.new) (P.place place.new volume.loaded) room.new)
         result.end) }
     ensures size { IfOk result.volume (λ volume. length volume.loaded ≡ size) }
     ensures refused { IfErr result.volume (RefusesPass size options
@@ -92,10 +95,12 @@ pub fn session_on_disk<S: Read, A: Write, P: Saves>(
         (device_of A.contents answers.old) (device_of A.contents answers.new) result.end) }
     ensures unsaved { OnErr result.volume ((loaded : List ℕ) →
         P.place place.new loaded ≡ P.place place.old loaded) }
+    ensures memory { Rises (IsErrAnd result.volume (λ e. e.fault ≡ LoadFault.OutOfMemory))
+        room.old room.new }
 {
-    match load_on_disk(alloc, file, size, options) {
+    match load_on_disk(room, file, size, options) {
         Ok(mut bench) => {
-            let end = session_loaded(alloc, &mut bench, script, answers, place, options);
+            let end = session_loaded(room, &mut bench, script, answers, place, options);
             DiskRun {
                 end,
                 volume: Ok(bench),
@@ -108,7 +113,7 @@ pub fn session_on_disk<S: Read, A: Write, P: Saves>(
 /// Loads a file that stays on disk, and has so many bytes, in one pass over it, whose bytes are
 /// then the volume's. Takes memory. Refused as [`run_on_disk`] says.
 pub fn load_on_disk(
-    alloc: Global,
+    room: &mut Room,
     file: File,
     size: u64,
     options: Options,
@@ -124,8 +129,9 @@ pub fn load_on_disk(
     ensures agreed { IfOk result (λ bench. IsTrue bench.agreed) }
     ensures refused { IfErr result (λ refused.
         IsPassFault size options.reading options.limits refused.read refused.fault) }
+    ensures memory { Rises (IsErrAnd result (λ e. e.fault ≡ LoadFault.OutOfMemory))
+        room.old room.new }
 {
-    let room = &mut Room::new(alloc);
     Bench::load_on_disk(room, file, size, options.reading, options.limits)
 }
 

@@ -1,11 +1,12 @@
 // What is read ahead of the lines that are taken from it.
-ghost use Rattle.std.specs.Prelude.{◌≡◌, ◌==◌, length, [], OnOk};
+ghost use Rattle.std.specs.Prelude.{◌≡◌, ◌≤◌, ◌==◌, ℕ, length, [], OnOk};
 ghost use Rattle.std.specs.Io.KnownBytes.{Consumes, IsAtEnd};
 ghost use Rattle.device_io.specs.Failures.{CountsFailure};
-ghost use Rattle.script_run.specs.Input.{IsPartTaken};
+ghost use Rattle.script_run.specs.Input.{IsLostWithCause, IsPartTaken};
 
 use crate::held_line::HeldLine;
 use device_io::{Failed, Source};
+use room::Room;
 use script_words::split_once;
 use std::io::Read;
 use std::marker::Model;
@@ -16,7 +17,7 @@ const ROOM: usize = 65536;
 /// The bytes that were read and not taken yet. It takes no memory.
 #[derive(Drop)]
 pub(crate) struct ReadAhead {
-    room: [u8; ROOM],
+    bytes: [u8; ROOM],
     from: usize,
     to: usize,
 }
@@ -26,7 +27,7 @@ impl Model for ReadAhead {
 
     ghost Value = { List ℕ };
 
-    ghost view = { λ r. slice_range r.room r.from r.to };
+    ghost view = { λ r. slice_range r.bytes r.from r.to };
 
     ghost invariant = { λ r. (r.from ≤ r.to) × (r.to ≤ 65536) };
 }
@@ -36,7 +37,7 @@ impl ReadAhead {
         ensures { result ≡ [] }
     {
         ReadAhead {
-            room: [0; ROOM],
+            bytes: [0; ROOM],
             from: 0,
             to: 0,
         }
@@ -59,24 +60,27 @@ impl ReadAhead {
     {
         self.from = 0;
         self.to = 0;
-        self.to = source.read(&mut self.room)?;
+        self.to = source.read(&mut self.bytes)?;
         Ok(())
     }
 
     /// Takes what stands in front of the next line feed onto the line, and passes over the line
     /// feed; where there is none, takes all. Tells whether there was one.
-    pub(crate) fn take_part(&mut self, line: &mut HeldLine) -> bool
-        ensures { IsPartTaken self.old self.new line.old line.new result }
+    pub(crate) fn take_part(&mut self, room: &mut Room, line: &mut HeldLine) -> bool
+        ensures part { IsPartTaken self.old self.new line.old line.new result }
+        ensures lost { (first : ℕ) → first ≤ room.old → IsLostWithCause line.old first room.old →
+            IsLostWithCause line.new first room.new }
+        ensures never_falls { room.old ≤ room.new }
     {
-        let waiting = &self.room[self.from..self.to];
+        let waiting = &self.bytes[self.from..self.to];
         match split_once(waiting, b'\n') {
             Some((part, _rest)) => {
-                line.add(part);
+                line.add(room, part);
                 self.from += part.len() + 1;
                 true
             }
             None => {
-                line.add(waiting);
+                line.add(room, waiting);
                 self.from = self.to;
                 false
             }

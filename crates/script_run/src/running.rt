@@ -1,5 +1,6 @@
 // Runs the lines of a script over a volume.
-ghost use Rattle.std.specs.Prelude.{◌≡◌, ◌≤◌, ◌++◌, ℕ, length, IsTrue, MatchResult, None, Ok};
+ghost use Rattle.std.specs.Prelude.{◌≡◌, ◌≤◌, ◌++◌, ℕ, length, IsOk, IsTrue, MatchResult, None, Ok};
+ghost use Rattle.room.specs.Refusals.{WasRefused};
 ghost use Rattle.frame_cut.specs.Traces.{count_of};
 ghost use Rattle.bench_rules.specs.Conditions.{AreRising};
 ghost use Rattle.bench_rules.specs.declared.answer.Answer.TheVariants as answers;
@@ -24,13 +25,12 @@ use script_hints::{Fault, Notes, fault_of};
 use script_text::{OutBuffer, Reply};
 use script_words::{Command, Lines, parse_line};
 use shown_floats::shown;
-use std::alloc::Global;
 use std::io::Write;
 
 /// Runs the lines in order, and writes the whole reply to each before the next is run, a short one
 /// at once. The refused lines are noted.
 pub(crate) fn run_lines<A: Write>(
-    alloc: Global,
+    room: &mut Room,
     bench: &mut Bench,
     script: &[u8],
     answers: &mut Sink<A>,
@@ -39,12 +39,13 @@ pub(crate) fn run_lines<A: Write>(
 ) -> LinesEnd
     requires { length script.now ≤ 16777216 }
     ensures lines { IsTrue bench.new.agreed →
-        RunsLines bench.old.state bench.new.state script.now stop
+        RunsLines (WasRefused room.old room.new) bench.old.state bench.new.state script.now stop
         (device_of A.contents answers.old)
         (device_of A.contents answers.new) result }
     ensures same { IsReadAs bench.old.state bench.new.state }
     ensures agreed { IsTrue bench.new.agreed → IsTrue bench.old.agreed }
     ensures loaded { bench.new.loaded ≡ bench.old.loaded }
+    ensures never_falls { room.old ≤ room.new }
 {
     let mut lines = Lines::new(script);
     let mut out = OutBuffer::new();
@@ -53,7 +54,7 @@ pub(crate) fn run_lines<A: Write>(
     let mut written = 0u64;
     'lines: while let Some(line) = lines.next() {
         number += 1;
-        match answer_line(alloc, bench, line, &mut out, answers, number, notes) {
+        match answer_line(room, bench, line, &mut out, answers, number, notes) {
             Ok(told) => {
                 written = written.saturating_add(told.length);
                 if told.is_refusal {
@@ -75,7 +76,7 @@ pub(crate) fn run_lines<A: Write>(
 
 // Runs one line and writes its reply. Where it is refused, it is noted under its number.
 fn answer_line<A: Write>(
-    alloc: Global,
+    room: &mut Room,
     bench: &mut Bench,
     line: &[u8],
     out: &mut OutBuffer,
@@ -86,13 +87,14 @@ fn answer_line<A: Write>(
     ensures line { let old = device_of A.contents answers.old in
         let new = device_of A.contents answers.new in
         IsTrue bench.new.agreed → (printed : Printed)
-        × LineStep bench.old.state line.now printed bench.new.state
+        × LineStep (WasRefused room.old room.new) bench.old.state line.now printed bench.new.state
         × IsWritten old new printed result }
     ensures same { IsReadAs bench.old.state bench.new.state }
     ensures agreed { IsTrue bench.new.agreed → IsTrue bench.old.agreed }
     ensures loaded { bench.new.loaded ≡ bench.old.loaded }
+    ensures never_falls { room.old ≤ room.new }
 {
-    let reply = run_line(alloc, bench, line);
+    let reply = run_line(room, bench, line);
     if let Some(fault) = fault_of(&reply) {
         notes.keep(number, line, fault);
     }
@@ -115,53 +117,60 @@ fn note_broken(notes: &mut Notes, number: u64, line: &[u8], told: &Result<Told, 
 }
 
 /// Runs one line.
-pub(crate) fn run_line(alloc: Global, bench: &mut Bench, line: &[u8]) -> Reply
+pub(crate) fn run_line(room: &mut Room, bench: &mut Bench, line: &[u8]) -> Reply
     ensures step { IsTrue bench.new.agreed → (printed : Printed) →
         Prints bench.new.state result printed →
-        LineStep bench.old.state line.now printed bench.new.state }
+        LineStep (WasRefused room.old room.new) bench.old.state line.now printed
+        bench.new.state }
     ensures there { IsTrue bench.new.agreed → HasTraces bench.new.state result }
     ensures same { IsReadAs bench.old.state bench.new.state }
     ensures agreed { IsTrue bench.new.agreed → IsTrue bench.old.agreed }
     ensures loaded { bench.new.loaded ≡ bench.old.loaded }
+    ensures never_falls { room.old ≤ room.new }
 {
     let traces = bench.volume().count();
-    match parse_line(&mut Room::new(alloc), bench.float_format(), traces, line) {
+    match parse_line(room, bench.float_format(), traces, line) {
         Ok(None) => Reply::Silent,
-        Ok(Some(command)) => run_command(alloc, bench, &command),
+        Ok(Some(command)) => run_command(room, bench, &command),
         Err(fault) => Reply::Fault(fault),
     }
 }
 
-fn run_command(alloc: Global, bench: &mut Bench, command: &Command) -> Reply
+fn run_command(room: &mut Room, bench: &mut Bench, command: &Command) -> Reply
     ensures step { IsTrue bench.new.agreed → (printed : Printed) →
         Prints bench.new.state result printed →
-        CommandStep bench.old.state command.now printed bench.new.state }
+        CommandStep (WasRefused room.old room.new) bench.old.state command.now printed
+        bench.new.state }
     ensures there { IsTrue bench.new.agreed → HasTraces bench.new.state result }
     ensures same { IsReadAs bench.old.state bench.new.state }
     ensures agreed { IsTrue bench.new.agreed → IsTrue bench.old.agreed }
     ensures loaded { bench.new.loaded ≡ bench.old.loaded }
+    ensures never_falls { room.old ≤ room.new }
 {
     match command {
-        Command::Apply(edit) => Reply::Edited(bench.apply(&mut Room::new(alloc), edit)),
-        Command::Ask(query) => answered(alloc, bench, query),
+        Command::Apply(edit) => Reply::Edited(bench.apply(room, edit)),
+        Command::Ask(query) => answered(room, bench, query),
     }
 }
 
 // The reply to a query. Where it tells of samples that are floats, it has their words.
-fn answered(alloc: Global, bench: &mut Bench, query: &Query) -> Reply
+fn answered(room: &mut Room, bench: &mut Bench, query: &Query) -> Reply
     ensures step { IsTrue bench.new.agreed → (printed : Printed) →
         Prints bench.new.state result printed →
-        CommandStep bench.old.state (Ask query.now) printed bench.new.state }
+        CommandStep (WasRefused room.old room.new) bench.old.state (Ask query.now) printed
+        bench.new.state }
     ensures there { IsTrue bench.new.agreed → HasTraces bench.new.state result }
     ensures same { IsReadAs bench.old.state bench.new.state }
     ensures agreed { IsTrue bench.new.agreed → IsTrue bench.old.agreed }
     ensures loaded { bench.new.loaded ≡ bench.old.loaded }
+    ensures never_falls { room.old ≤ room.new }
 {
     if asks_for_section(query) {
-        return section_reply(bench.ask(&mut Room::new(alloc), query));
+        return section_reply(bench.ask(room, query));
     }
     let floats = floats_of(bench, query);
-    shown_reply(alloc, floats, bench.ask(&mut Room::new(alloc), query))
+    let reply = bench.ask(room, query);
+    shown_reply(room, floats, reply)
 }
 
 // Whether the query is for a section.
@@ -215,17 +224,26 @@ fn asks_for_stats(query: &ChosenQuery) -> bool
 }
 
 // What is printed for the reply to a query.
-fn shown_reply(alloc: Global, floats: Option<FloatFormat>, reply: Result<Answer, AskFault>) -> Reply
+fn shown_reply(
+    room: &mut Room,
+    floats: Option<FloatFormat>,
+    reply: Result<Answer, AskFault>,
+) -> Reply
     ensures printed { (s : State) (printed : Printed) → Prints s result printed →
         IsPrintedOf floats reply printed }
     ensures there { (s : State) → HasTraces s result }
+
+    // An answer is refused only where there was no memory for its words.
+    ensures words { (s : State) (printed : Printed) → Prints s result printed → IsOk reply →
+        IsTrue printed.is_refusal → WasRefused room.old room.new }
+    ensures never_falls { room.old ≤ room.new }
 {
     let Some(format) = floats else {
         return Reply::Asked(reply);
     };
     match reply {
         Err(fault) => Reply::Asked(Err(fault)),
-        Ok(answer) => match shown(&mut Room::new(alloc), format, &answer) {
+        Ok(answer) => match shown(room, format, &answer) {
             Ok(Some(shown)) => Reply::Floats(shown),
             Ok(None) => Reply::Asked(Ok(answer)),
             Err(_) => Reply::Asked(Err(AskFault::OutOfMemory)),

@@ -1,13 +1,13 @@
 // Where the saves of a session go.
-ghost use Rattle.std.specs.Prelude.{◌≡◌, IsTrue, List, ℕ};
+ghost use Rattle.std.specs.Prelude.{◌≡◌, ◌≤◌, IsTrue, List, ℕ};
 ghost use Rattle.frame_cut.specs.Volume.{bytes_of};
 ghost use Rattle.script_run.specs.Places.{Place, Elsewhere, Follows, IsSaved};
 
 use crate::saving::save_now;
 use bench_core::Bench;
+use room::Room;
 use safe_save::SavePlace;
 use script_text::SessionFault;
-use std::alloc::Global;
 
 /// Where the saves of a session go, one after another: OUT, or FILE itself.
 pub trait Saves {
@@ -19,20 +19,22 @@ pub trait Saves {
         ensures { (loaded : List ℕ) → Follows (place self.now loaded) loaded };
 
     /// Saves what is held now, at a line `save`: how many bytes, or S07 or S08.
-    fn save(&mut self, alloc: Global, bench: &mut Bench) -> Result<u64, SessionFault>
+    fn save(&mut self, room: &mut Room, bench: &mut Bench) -> Result<u64, SessionFault>
         ensures saved { IsTrue bench.new.agreed → IsSaved (place self.old bench.old.loaded)
             (bytes_of bench.old.state.volume) result (place self.new bench.new.loaded) }
         ensures state { bench.new.state ≡ bench.old.state }
         ensures agreed { IsTrue bench.new.agreed → IsTrue bench.old.agreed }
-        ensures loaded { bench.new.loaded ≡ bench.old.loaded };
+        ensures loaded { bench.new.loaded ≡ bench.old.loaded }
+        ensures never_falls { room.old ≤ room.new };
 
     /// The same behind the last line.
-    fn save_at_end(&mut self, alloc: Global, bench: &mut Bench) -> Result<u64, SessionFault>
+    fn save_at_end(&mut self, room: &mut Room, bench: &mut Bench) -> Result<u64, SessionFault>
         ensures saved { IsTrue bench.new.agreed → IsSaved (place self.old bench.old.loaded)
             (bytes_of bench.old.state.volume) result (place self.new bench.new.loaded) }
         ensures state { bench.new.state ≡ bench.old.state }
         ensures agreed { IsTrue bench.new.agreed → IsTrue bench.old.agreed }
-        ensures loaded { bench.new.loaded ≡ bench.old.loaded };
+        ensures loaded { bench.new.loaded ≡ bench.old.loaded }
+        ensures never_falls { room.old ≤ room.new };
 }
 
 /// A place beside FILE, as OUT is, whose saves write all that is held.
@@ -46,11 +48,11 @@ impl<P: SavePlace> Saves for Outside<P> {
 
     fn follows(&self) {}
 
-    fn save(&mut self, alloc: Global, bench: &mut Bench) -> Result<u64, SessionFault> {
-        save_now(alloc, bench, &mut self.place)
+    fn save(&mut self, room: &mut Room, bench: &mut Bench) -> Result<u64, SessionFault> {
+        save_now(room, bench, &mut self.place)
     }
 
-    fn save_at_end(&mut self, alloc: Global, bench: &mut Bench) -> Result<u64, SessionFault> {
-        save_now(alloc, bench, &mut self.place)
+    fn save_at_end(&mut self, room: &mut Room, bench: &mut Bench) -> Result<u64, SessionFault> {
+        save_now(room, bench, &mut self.place)
     }
 }

@@ -1,5 +1,5 @@
 // The saves of a session to OUT.
-ghost use Rattle.std.specs.Prelude.{◌≡◌, length, IsTrue};
+ghost use Rattle.std.specs.Prelude.{◌≡◌, ◌≤◌, length, IsTrue};
 ghost use Rattle.std.specs.Io.KnownBytes.{Appends};
 ghost use Rattle.frame_cut.specs.Volume.{bytes_of};
 ghost use Rattle.script_run.specs.Places.{SavesElsewhere};
@@ -10,13 +10,12 @@ use device_io::Sink;
 use room::Room;
 use safe_save::{Ended, NotBegun, SavePlace};
 use script_text::SessionFault;
-use std::alloc::Global;
 use std::io::Write;
 
 /// Saves what is held now to OUT: how many bytes, or S07 or S08. Takes no memory but what the place
 /// does.
 pub(crate) fn save_now<P: SavePlace>(
-    alloc: Global,
+    room: &mut Room,
     bench: &mut Bench,
     place: &mut P,
 ) -> Result<u64, SessionFault>
@@ -25,8 +24,9 @@ pub(crate) fn save_now<P: SavePlace>(
     ensures state { bench.new.state ≡ bench.old.state }
     ensures agreed { IsTrue bench.new.agreed → IsTrue bench.old.agreed }
     ensures loaded { bench.new.loaded ≡ bench.old.loaded }
+    ensures never_falls { room.old ≤ room.new }
 {
-    let bytes = count_bytes(alloc, bench);
+    let bytes = count_bytes(room, bench);
     let writer = match place.begin() {
         Ok(writer) => writer,
         Err(NotBegun::NoPlace) => return Err(SessionFault::NoOut),
@@ -58,14 +58,14 @@ fn is_written<W: Write>(bench: &mut Bench, out: &mut Sink<W>) -> bool
 }
 
 // How many bytes the volume has.
-fn count_bytes(alloc: Global, bench: &mut Bench) -> u64
+fn count_bytes(room: &mut Room, bench: &mut Bench) -> u64
     ensures number { IsTrue bench.new.agreed →
         result ≡ length (bytes_of bench.old.state.volume) }
     ensures state { bench.new.state ≡ bench.old.state }
     ensures agreed { IsTrue bench.new.agreed → IsTrue bench.old.agreed }
     ensures loaded { bench.new.loaded ≡ bench.old.loaded }
+    ensures never_falls { room.old ≤ room.new }
 {
-    let room = &mut Room::new(alloc);
     match bench.ask(room, &Query::Info) {
         Ok(Answer::Info(info)) => info.bytes,
         _ => 0,

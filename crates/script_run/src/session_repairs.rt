@@ -15,6 +15,7 @@ use bench_core::Bench;
 use edit_pieces::{Attempt, FurtherEdits, Repaired, VolumeEdits, Watcher, are_within, heads_of};
 use journal_codes::{Head, PIECE_ROOM};
 use journal_save::{Disk, SaveError};
+use room::Room;
 use script_text::SessionFault;
 use std::alloc::{AllocError, Global};
 
@@ -90,15 +91,15 @@ impl<D: Disk, W: Watcher<D>> Saves for InPlace<D, W> {
 
     fn follows(&self) {}
 
-    fn save(&mut self, alloc: Global, bench: &mut Bench) -> Result<u64, SessionFault> {
+    fn save(&mut self, room: &mut Room, bench: &mut Bench) -> Result<u64, SessionFault> {
         if self.is_at_end {
             return Err(SessionFault::NoOut);
         }
-        self.repair(alloc, bench)
+        self.repair(room.alloc(), bench)
     }
 
-    fn save_at_end(&mut self, alloc: Global, bench: &mut Bench) -> Result<u64, SessionFault> {
-        self.repair(alloc, bench)
+    fn save_at_end(&mut self, room: &mut Room, bench: &mut Bench) -> Result<u64, SessionFault> {
+        self.repair(room.alloc(), bench)
     }
 }
 
@@ -142,14 +143,14 @@ fn try_repair<D: Disk>(
         Ok(edits) => edits,
         Err(why) => return Attempt::Ended(Repaired::Unfit(why)),
     };
-    let Ok(mut room) = room_of_a_piece(alloc) else {
+    let Ok(mut piece) = room_of_a_piece(alloc) else {
         return Attempt::NoMemory;
     };
-    let room = room.as_mut_slice();
-    let Ok(heads) = heads_of(alloc, &mut edits, room) else {
+    let piece = piece.as_mut_slice();
+    let Ok(heads) = heads_of(alloc, &mut edits, piece) else {
         return Attempt::NoMemory;
     };
-    let attempt = repair_again(disk, base_of(bench), written.as_slice(), edits, room);
+    let attempt = repair_again(disk, base_of(bench), written.as_slice(), edits, piece);
     if is_written(&attempt) {
         *written = heads;
     }
@@ -157,11 +158,11 @@ fn try_repair<D: Disk>(
 }
 
 fn room_of_a_piece(alloc: Global) -> Result<Vec<u8>, AllocError>
-    ensures { IfOk result (λ room. length room.items ≡ PIECE_ROOM) }
+    ensures { IfOk result (λ piece. length piece.items ≡ PIECE_ROOM) }
 {
-    let mut room = Vec::new(alloc);
-    room.resize(PIECE_ROOM, 0)?;
-    Ok(room)
+    let mut piece = Vec::new(alloc);
+    piece.resize(PIECE_ROOM, 0)?;
+    Ok(piece)
 }
 
 // Whether FILE has the bytes of these edits now.
@@ -180,15 +181,15 @@ fn repair_again<T: Copy, D: Disk>(
     base: &Held,
     written: &[Head],
     mut edits: VolumeEdits<'_, T>,
-    room: &mut [u8],
+    piece: &mut [u8],
 ) -> Attempt
-    requires room { length room.old ≡ PIECE_ROOM }
+    requires piece { length piece.old ≡ PIECE_ROOM }
     requires begun { edits.left ≡ edits.all }
     ensures { Repairing base.now.bytes (map range_at written.now) (D.disk disk.old)
         (laid_all edits.entry.all base.now.bytes) result (D.disk disk.new) }
 {
     if written.is_empty() {
-        return Attempt::Ended(repair_by(disk, &mut edits, room));
+        return Attempt::Ended(repair_by(disk, &mut edits, piece));
     }
     if !base.is_in_memory() {
         return Attempt::Stopped;
@@ -198,5 +199,5 @@ fn repair_again<T: Copy, D: Disk>(
         return Attempt::Stopped;
     }
     let mut edits = FurtherEdits::new(written, loaded, edits);
-    Attempt::Ended(repair_by(disk, &mut edits, room))
+    Attempt::Ended(repair_by(disk, &mut edits, piece))
 }

@@ -1,5 +1,6 @@
 // Runs a script over a volume.
-ghost use Rattle.std.specs.Prelude.{◌≡◌, length, true, false, IsTrue, IfOk, IfErr, MatchResult};
+ghost use Rattle.std.specs.Prelude.{◌≡◌, ◌≤◌, ℕ, length, true, false, IsErrOf, IsTrue, IfOk, IfErr, MatchResult};
+ghost use Rattle.room.specs.Refusals.{Rises};
 ghost use Rattle.live_volume.specs.Held.{IsReadAs};
 ghost use Rattle.frame_cut.specs.Volume.{bytes_of};
 ghost use Rattle.script_text.specs.RefusalTexts.{load_refusal_line};
@@ -20,7 +21,6 @@ use frame_cut::LoadFault;
 use room::Room;
 use script_hints::Notes;
 use script_text::{RunEnd, TextBuffer, load_fault_line, script_fault_line, write_text};
-use std::alloc::Global;
 use std::io::{Read, Write};
 
 /// Runs a script over a volume: loads the volume, reads the script whole, runs its lines in order,
@@ -30,10 +30,10 @@ use std::io::{Read, Write};
 /// refused gives its one line there, and no line is run. With `options.stop` the first refused line
 /// is the last, and nothing is saved. L01, P01, `Answers` and `Save` come only where that reader or
 /// writer failed in this call. Takes memory for the volume and the script; want of it is told as
-/// L16, P03 or, in a line's reply, E11. The refused lines are noted too, in a room of fixed size;
-/// no answer is made from that.
+/// L16, P03 or, in a line's reply, E11, and only where a growth was refused in this call. The
+/// refused lines are noted too, in a room of fixed size; no answer is made from that.
 pub fn run<R: Read, S: Read, A: Write, O: Write>(
-    alloc: Global,
+    room: &mut Room,
     reader: &mut Source<R>,
     script: &mut Source<S>,
     answers: &mut Sink<A>,
@@ -41,18 +41,19 @@ pub fn run<R: Read, S: Read, A: Write, O: Write>(
     options: Options,
     notes: &mut Notes,
 ) -> RunEnd
-    ensures { Runs false options
+    ensures run { Runs false options
         (devices (device_of R.remaining reader.old)
         (device_of S.remaining script.old)
-        (device_of A.contents answers.old) (device_of O.contents out.old))
+        (device_of A.contents answers.old) (device_of O.contents out.old) room.old)
         (devices (device_of R.remaining reader.new)
         (device_of S.remaining script.new)
-        (device_of A.contents answers.new) (device_of O.contents out.new))
+        (device_of A.contents answers.new) (device_of O.contents out.new) room.new)
         result }
+    ensures never_falls { room.old ≤ room.new }
 {
-    match load(alloc, reader, options) {
+    match load(room, reader, options) {
         Ok(mut bench) => {
-            let end = run_loaded(alloc, &mut bench, script, answers, out, options, notes);
+            let end = run_loaded(room, &mut bench, script, answers, out, options, notes);
             // The law by which each read of bytes in memory agrees, for the proof.
             bench.memory_agrees();
             bench.close();
@@ -67,7 +68,7 @@ pub fn run<R: Read, S: Read, A: Write, O: Write>(
 /// loaded bytes agreed: where the bytes stay on disk, that is what the claim on a run stands on.
 /// In memory it always is so.
 pub fn run_loaded<S: Read, A: Write, O: Write>(
-    alloc: Global,
+    room: &mut Room,
     bench: &mut Bench,
     script: &mut Source<S>,
     answers: &mut Sink<A>,
@@ -75,25 +76,26 @@ pub fn run_loaded<S: Read, A: Write, O: Write>(
     options: Options,
     notes: &mut Notes,
 ) -> RunEnd
-    ensures run { (before after : Device) →
+    ensures run { (before after : Device) (refusals : ℕ) → refusals ≤ room.old →
         Loads before after options.reading options.limits bench.old.state.on_disk
         bench.old.state → IsTrue bench.new.agreed → Runs bench.old.state.on_disk options
         (devices before (device_of S.remaining script.old)
-        (device_of A.contents answers.old) (device_of O.contents out.old))
+        (device_of A.contents answers.old) (device_of O.contents out.old) refusals)
         (devices after (device_of S.remaining script.new)
-        (device_of A.contents answers.new) (device_of O.contents out.new))
+        (device_of A.contents answers.new) (device_of O.contents out.new) room.new)
         result }
     ensures same { IsReadAs bench.old.state bench.new.state }
     ensures agreed { IsTrue bench.new.agreed → IsTrue bench.old.agreed }
     ensures loaded { bench.new.loaded ≡ bench.old.loaded }
+    ensures never_falls { room.old ≤ room.new }
 {
     // The law by which each line is answered as from scratch, for the proof.
     steps_stay_cut();
-    let lines = match read_script(alloc, script) {
+    let lines = match read_script(room, script) {
         Ok(lines) => lines,
         Err(fault) => return tell(answers, &script_fault_line(fault), RunEnd::Script(fault)),
     };
-    match run_lines(alloc, bench, lines.as_slice(), answers, options.stop, notes) {
+    match run_lines(room, bench, lines.as_slice(), answers, options.stop, notes) {
         LinesEnd::Stopped { line } => RunEnd::Stopped { line },
         LinesEnd::Answers { written } => RunEnd::Answers { written },
         LinesEnd::Whole { refused } if options.save => match save(bench, out) {
@@ -105,7 +107,7 @@ pub fn run_loaded<S: Read, A: Write, O: Write>(
 }
 
 pub(crate) fn load<R: Read>(
-    alloc: Global,
+    room: &mut Room,
     reader: &mut Source<R>,
     options: Options,
 ) -> Result<Bench, LoadFault>
@@ -116,8 +118,8 @@ pub(crate) fn load<R: Read>(
     ensures err { IfErr result
         (λ fault. IsLoadRefused (device_of R.remaining reader.old)
         (device_of R.remaining reader.new) options.reading options.limits fault) }
+    ensures memory { Rises (IsErrOf result LoadFault.OutOfMemory) room.old room.new }
 {
-    let room = &mut Room::new(alloc);
     Bench::load(room, reader, options.reading, options.limits)
 }
 
@@ -135,11 +137,13 @@ fn save<O: Write>(bench: &mut Bench, out: &mut Sink<O>) -> Result<(), SaveFault>
     bench.save(out)
 }
 
-/// Refuses a volume before it is loaded, as a load does: writes the one line of that.
-pub fn refuse_load<A: Write>(answers: &mut Sink<A>, fault: LoadFault) -> RunEnd
+/// Refuses a volume that is larger than the limit before it is loaded, as a load does (L02): writes
+/// the one line of that. Takes no memory.
+pub fn refuse_too_large<A: Write>(answers: &mut Sink<A>) -> RunEnd
     ensures { IsTold (device_of A.contents answers.old) (device_of A.contents answers.new)
-        (load_refusal_line fault) (ends.Load fault) result }
+        (load_refusal_line LoadFault.TooLarge) (ends.Load LoadFault.TooLarge) result }
 {
+    let fault = LoadFault::TooLarge;
     tell(answers, &load_fault_line(fault), RunEnd::Load(fault))
 }
 

@@ -1,6 +1,7 @@
 // A long answer whose writer fails in the midst of it.
 use crate::tests::{options, put};
 use device_io::{Sink, Source, StepReader, StepWriter};
+use room::Room;
 use script_hints::Notes;
 use script_run::{RunEnd, run};
 use std::alloc::Global;
@@ -30,7 +31,7 @@ fn cut_slice(alloc: Global, limit: usize) -> Result<(Vec<u8>, RunEnd), Fail> {
     let mut answers = Sink::new(StepWriter::new(room.as_mut_slice(), 5000, limit));
     let mut out = Sink::new(Vec::new(alloc));
     let end = run(
-        alloc,
+        &mut Room::new(alloc),
         &mut reader,
         &mut lines,
         &mut answers,

@@ -1,6 +1,7 @@
 // Sessions whose lines cannot be read on, and whose saves fail.
 use crate::tests::{Told, Wanted, is_told, options, sample_file};
 use device_io::{Sink, Source, StepReader};
+use room::Room;
 use safe_save::MemoryPlace;
 use script_run::{Options, Outside, RunEnd, session};
 use script_text::ScriptFault;
@@ -21,7 +22,7 @@ fn answers_over(
     let mut answers = Sink::new(Vec::new(alloc));
     let mut out = Outside { place };
     let end = session(
-        alloc,
+        &mut Room::new(alloc),
         &mut volume,
         &mut Source::new(reader),
         &mut answers,

@@ -2,6 +2,7 @@
 use device_io::{Sink, Source, StepReader, StepWriter};
 use edit_overlay::SaveFault;
 use frame_cut::{Limits, LoadFault, Reading};
+use room::Room;
 use script_hints::Notes;
 use script_run::{Options, RunEnd, run};
 use script_text::ScriptFault;
@@ -78,7 +79,7 @@ fn run_readers(alloc: Global, file: StepReader, script: StepReader, options: Opt
     let mut answers = Sink::new(Vec::new(alloc));
     let mut out = Sink::new(Vec::new(alloc));
     let end = run(
-        alloc,
+        &mut Room::new(alloc),
         &mut reader,
         &mut lines,
         &mut answers,
@@ -136,7 +137,7 @@ fn run_into(
     let mut answers = Sink::new(StepWriter::new(printed, 3, answers_limit));
     let mut out = Sink::new(StepWriter::new(saved, 7, out_limit));
     let end = run(
-        alloc,
+        &mut Room::new(alloc),
         &mut reader,
         &mut lines,
         &mut answers,

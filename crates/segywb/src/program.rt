@@ -7,6 +7,7 @@ use device_io::{Sink, Source};
 use frame_cut::{Limits, LoadFault};
 use journal_codes::PIECE_ROOM;
 use journal_save::Disk;
+use room::Room;
 use run_ending::{
     OutPlace, RepairTeller, Target, disk_of, finish, finish_in_place, finish_told, journal_refusal,
     look_at_file, misuse, reading_of, recover_file, refused_out, target_of, tell_how_to_begin,
@@ -17,7 +18,7 @@ use safe_save::{
 use saved_run::{ToOut, run_on_disk_to_out, run_to_out};
 use script_hints::Notes;
 use script_run::{
-    InPlace, Options, Outside, RepairRun, RunEnd, Saves, refuse_load, run_in_place,
+    InPlace, Options, Outside, RepairRun, RunEnd, Saves, refuse_too_large, run_in_place,
     run_on_disk_in_place, session, session_on_disk,
 };
 use std::fs::{File, Metadata, OpenFile};
@@ -248,7 +249,7 @@ fn too_large<R: Files<File = File> + AllocGlobal + Print + Eprint>(
     arguments: &Arguments,
 ) -> u8 {
     let answers = &mut Sink::new(BoundedFile::new(io::writer(rt), answers_limit(rt)));
-    let end = refuse_load(answers, LoadFault::TooLarge);
+    let end = refuse_too_large(answers);
     finish_told(rt, arguments, None, end)
 }
 
@@ -324,11 +325,11 @@ fn session_to<R: Files<File = File> + AllocGlobal + Print + Input, P: Saves>(
     let options = options(arguments, original.is_some());
     let script = &mut Source::new(rt.reader());
     let answers = &mut Sink::new(BoundedFile::new(io::writer(rt), answers_limit(rt)));
-    let alloc = rt.alloc();
+    let room = &mut Room::new(rt.alloc());
     match volume {
-        Volume::Memory(mut volume) => session(alloc, &mut volume, script, answers, place, options),
+        Volume::Memory(mut volume) => session(room, &mut volume, script, answers, place, options),
         Volume::Disk(volume, bytes) => {
-            session_on_disk(alloc, volume, bytes, script, answers, place, options).close()
+            session_on_disk(room, volume, bytes, script, answers, place, options).close()
         }
     }
 }
@@ -351,22 +352,22 @@ fn repair<'a, R: Files<File = File> + AllocGlobal + Print + Eprint + Input>(
     if is_large {
         return too_large(rt, arguments);
     }
-    let mut room = Vec::new(rt.alloc());
-    if room.resize(PIECE_ROOM, 0).is_err() {
+    let mut piece = Vec::new(rt.alloc());
+    if piece.resize(PIECE_ROOM, 0).is_err() {
         let _ = eprintln!(rt; "segywb: out of memory");
         return 4;
     }
     let mut notes = Notes::new();
     let options = options(arguments, false);
-    let room = room.as_mut_slice();
+    let piece = piece.as_mut_slice();
     let run = match lines {
         Lines::File(file) => {
             let script = &mut Source::new(file);
-            repaired(rt, volume, script, &mut disk, room, options, &mut notes)
+            repaired(rt, volume, script, &mut disk, piece, options, &mut notes)
         }
         Lines::Standard => {
             let script = &mut Source::new(rt.reader());
-            repaired(rt, volume, script, &mut disk, room, options, &mut notes)
+            repaired(rt, volume, script, &mut disk, piece, options, &mut notes)
         }
     };
     finish_in_place(
@@ -387,29 +388,29 @@ fn repaired<R: Files<File = File> + AllocGlobal + Print, S: Read, D: Disk>(
     volume: Volume<R::File>,
     script: &mut Source<S>,
     disk: &mut D,
-    room: &mut [u8],
+    piece: &mut [u8],
     options: Options,
     notes: &mut Notes,
 ) -> RepairRun
-    requires { length room.old ≡ PIECE_ROOM }
+    requires { length piece.old ≡ PIECE_ROOM }
 {
     let answers = &mut Sink::new(BoundedFile::new(io::writer(rt), answers_limit(rt)));
-    let alloc = rt.alloc();
+    let room = &mut Room::new(rt.alloc());
     match volume {
         Volume::Memory(mut volume) => {
             run_in_place(
-                alloc,
+                room,
                 &mut volume,
                 script,
                 answers,
                 disk,
-                room,
+                piece,
                 options,
                 notes,
             )
         }
         Volume::Disk(file, bytes) => run_on_disk_in_place(
-            alloc, file, bytes, script, answers, disk, room, options, notes,
+            room, file, bytes, script, answers, disk, piece, options, notes,
         )
         .close(),
     }
@@ -458,15 +459,15 @@ fn answer<R: Files + AllocGlobal + Print + Input, F: Folder + Drop>(
     notes: &mut Notes,
 ) -> ToOut<F> {
     let answers = &mut Sink::new(BoundedFile::new(io::writer(rt), answers_limit(rt)));
-    let alloc = rt.alloc();
+    let room = &mut Room::new(rt.alloc());
     match lines {
         Lines::File(file) => {
             let script = &mut Source::new(file);
-            run_to_out(alloc, volume, script, answers, writer, mode, options, notes)
+            run_to_out(room, volume, script, answers, writer, mode, options, notes)
         }
         Lines::Standard => {
             let script = &mut Source::new(rt.reader());
-            run_to_out(alloc, volume, script, answers, writer, mode, options, notes)
+            run_to_out(room, volume, script, answers, writer, mode, options, notes)
         }
     }
 }
@@ -506,9 +507,9 @@ fn script_on_disk<R: Files + AllocGlobal + Print, S: Read, F: Folder + Drop>(
     notes: &mut Notes,
 ) -> ToOut<F> {
     let answers = &mut Sink::new(BoundedFile::new(io::writer(rt), answers_limit(rt)));
-    let alloc = rt.alloc();
+    let room = &mut Room::new(rt.alloc());
     run_on_disk_to_out(
-        alloc, volume, bytes, script, answers, writer, mode, options, notes,
+        room, volume, bytes, script, answers, writer, mode, options, notes,
     )
     .close()
 }

@@ -20,4 +20,4 @@ returns-clause-run g c = on_ok c.run_on_disk-run.result.volume _ _ (λ volume ru
 pub returns-clause-saved : goal.returns-clause-saved
 returns-clause-saved g c =
     on_ok c.run_on_disk-run.result.volume _ _ (λ volume ran agreed empty done.
-    held true c.args.options c.args.mode _ _ _ _ c.run_on_disk-run.result.end c.end_out-folder.result.1 _ empty done (ran agreed)) (returns-clause-run g c)
+    held true c.args.options c.args.mode _ _ _ _ _ c.run_on_disk-run.result.end c.end_out-folder.result.1 _ empty done (ran agreed)) (returns-clause-run g c)

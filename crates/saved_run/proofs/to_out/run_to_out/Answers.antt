@@ -8,7 +8,7 @@ use Rattle.saved_run.proofs.to_out.run_to_out.Goals as goal
 pub returns-clause-run : goal.returns-clause-run
 returns-clause-run g c = record {
   out = device_of (writer_contents (option_map beside_bytes)) c.run-end.new.out;
-  runs = rw c.new-out.ensures at c.run-end.ensures;
+  runs = rw c.new-out.ensures at c.run-end.ensures.run;
   ends = record {
     fits = c.end_out-folder.ensures.fits;
     stands = rw c.into_inner.ensures at c.end_out-folder.ensures.stands;
@@ -18,4 +18,4 @@ returns-clause-run g c = record {
 }
 
 pub returns-clause-saved : goal.returns-clause-saved
-returns-clause-saved g c = λ empty done. held false c.args.options c.args.mode _ _ _ _ c.run-end.result c.end_out-folder.result.1 _ empty done (returns-clause-run g c)
+returns-clause-saved g c = λ empty done. held false c.args.options c.args.mode _ _ _ _ _ c.run-end.result c.end_out-folder.result.1 _ empty done (returns-clause-run g c)

@@ -1,4 +1,4 @@
-use Rattle.std.proofs.Common.{refl, ◌∙◌}
+use Rattle.std.proofs.Common.{refl, ◌∙◌, ap, Err}
 use Rattle.script_run.proofs.EndLemmas.{loads_in_memory}
 use Rattle.script_run.proofs.InPlaceLemmas.{load_end_in_place, in_memory}
 use Rattle.script_run.proofs.in_place.run_in_place.Goals as goal
@@ -7,11 +7,11 @@ pub returns-in-Err-clause-run : goal.returns-in-Err-clause-run
 returns-in-Err-clause-run g c =
     rw (c.not_begun.ensures.end, c.not_begun.ensures.repaired) (
     load_end_in_place _ c.args.options _ _ c.in-Err.fault c.tell.result _
-    (record { refused = c.in-Err.ensures.err; unread = refl; unsaved = refl }) (rw c.load_fault_line.ensures at c.tell.ensures))
+    (record { refused = c.in-Err.ensures.err; unread = refl; unsaved = refl; memory = λ e. c.in-Err.ensures.memory.rose (ap Err e) }) (rw c.load_fault_line.ensures at c.tell.ensures))
 
 pub returns-in-Ok-clause-run : goal.returns-in-Ok-clause-run
 returns-in-Ok-clause-run g c =
     let memory = c.in-Ok.ensures.ok.place_is in
     in_memory c.args.options _ _ _ _ _ _ c.in-Ok.bench.state memory (
-    c.loaded_in_place-run.ensures.run _ _ (loads_in_memory _ _ _ _ c.in-Ok.bench.state memory c.in-Ok.ensures.ok) c.in-Ok.ensures.loaded
+    c.loaded_in_place-run.ensures.run _ _ c.args.room.now c.in-Ok.ensures.memory.never_falls (loads_in_memory _ _ _ _ c.in-Ok.bench.state memory c.in-Ok.ensures.ok) c.in-Ok.ensures.loaded
     (c.memory_agrees.ensures (c.loaded_in_place-run.ensures.same.on_disk ∙ memory)))

@@ -8,13 +8,14 @@ use Rattle.script_run.proofs.running.run_lines.Given as goal
 
 abbrev pub invariant-lines : goal.invariant-lines
 invariant-lines g l =
-    (IsTrue l.bench.agreed → SoFar l.initial.bench.state (script_lines l.script) l.lines l.stop l.number l.refused l.written
+    (IsTrue l.bench.agreed → SoFar l.initial.room l.room l.initial.bench.state (script_lines l.script) l.lines l.stop l.number l.refused l.written
     (device_of g.A.Write.contents l.initial.answers) (device_of g.A.Write.contents l.answers) l.bench.state)
     × (l.number + length l.lines ≤ 16777216)
     × (l.refused ≤ l.number)
     × IsReadAs l.initial.bench.state l.bench.state
     × (IsTrue l.bench.agreed → IsTrue l.initial.bench.agreed)
     × (l.bench.loaded ≡ l.initial.bench.loaded)
+    × (l.initial.room ≤ l.room)
 
 abbrev pub decreases-lines : goal.decreases-lines
 decreases-lines g l = length l.lines

@@ -1,15 +1,15 @@
-use Rattle.std.proofs.Common.{refl, ◌∙◌}
+use Rattle.std.proofs.Common.{refl, ◌∙◌, ap, Err}
 use Rattle.script_run.proofs.EndLemmas.{load_end, loads_in_memory, runs_in_memory}
 use Rattle.script_run.proofs.whole_run.run.Goals as goal
 
-pub returns-in-Err : goal.returns-in-Err
-returns-in-Err g c =
+pub returns-in-Err-clause-run : goal.returns-in-Err-clause-run
+returns-in-Err-clause-run g c =
     load_end _ c.args.options _ _ c.in-Err.fault c.tell.result
-    (record { refused = c.in-Err.ensures.err; unread = refl; unsaved = refl }) (rw c.load_fault_line.ensures at c.tell.ensures)
+    (record { refused = c.in-Err.ensures.err; unread = refl; unsaved = refl; memory = λ e. c.in-Err.ensures.memory.rose (ap Err e) }) (rw c.load_fault_line.ensures at c.tell.ensures)
 
-pub returns-in-Ok : goal.returns-in-Ok
-returns-in-Ok g c =
+pub returns-in-Ok-clause-run : goal.returns-in-Ok-clause-run
+returns-in-Ok-clause-run g c =
     let memory = c.in-Ok.ensures.ok.place_is in
     runs_in_memory c.args.options _ _ _ c.in-Ok.bench.state memory (
-    c.run_loaded-end.ensures.run _ _ (loads_in_memory _ _ _ _ c.in-Ok.bench.state memory c.in-Ok.ensures.ok)
+    c.run_loaded-end.ensures.run _ _ c.args.room.now c.in-Ok.ensures.memory.never_falls (loads_in_memory _ _ _ _ c.in-Ok.bench.state memory c.in-Ok.ensures.ok)
     (c.memory_agrees.ensures (c.run_loaded-end.ensures.same.on_disk ∙ memory)))

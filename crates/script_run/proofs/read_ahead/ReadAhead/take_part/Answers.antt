@@ -6,18 +6,18 @@ use Rattle.script_run.proofs.read_ahead.ReadAhead.take_part.Goals as goal
 
 pub invariant_of-self : goal.invariant_of-self
 invariant_of-self c = (
-  within_slice c.self.inside.room c.in-Some.part.now c.self.inside.from c.self.inside.to c.self.invariant.0 (search rules) c.in-Some.ensures.some c.in-Some.ensures.front,
+  within_slice c.self.inside.bytes c.in-Some.part.now c.self.inside.from c.self.inside.to c.self.invariant.0 (search rules) c.in-Some.ensures.some c.in-Some.ensures.front,
   c.self.invariant.1,
 )
 
-pub returns-in-Some : goal.returns-in-Some
-returns-in-Some c =
-    let next : List ℕ = slice_range c.self.inside.room (c.self.inside.from + (length c.in-Some.part.now + 1)) c.self.inside.to in (
+pub returns-in-Some-clause-part : goal.returns-in-Some-clause-part
+returns-in-Some-clause-part c =
+    let next : List ℕ = slice_range c.self.inside.bytes (c.self.inside.from + (length c.in-Some.part.now + 1)) c.self.inside.to in (
       c.in-Some.part.now,
       subst (λ (whole : List ℕ). IsFront whole c.in-Some.part.now next true) c.self.view_is (
         c.in-Some.ensures.some,
         c.in-Some.ensures.front,
-        rest_of_slice c.self.inside.room c.in-Some.part.now c.self.inside.from c.self.inside.to c.self.invariant.0 (search rules) c.in-Some.ensures.some c.in-Some.ensures.front,
+        rest_of_slice c.self.inside.bytes c.in-Some.part.now c.self.inside.from c.self.inside.to c.self.invariant.0 (search rules) c.in-Some.ensures.some c.in-Some.ensures.front,
       ),
-      c.add.ensures,
+      c.add.ensures.held,
     )

@@ -35,6 +35,7 @@ pub(crate) fn delays(
     let count = overlay.count();
     let mut delays = room.told(Vec::with_capacity(room.alloc(), count as usize))?;
     for k in 0..count {
+        overlay.read_ahead(k + 1, DELAY);
         room.told_back(delays.push(delay(overlay, k + 1)?))?;
     }
     Ok(delays)

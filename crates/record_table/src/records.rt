@@ -1,7 +1,7 @@
 ghost use Rattle.std.specs.Prelude.{◌≡◌, ◌==◌, length, slice_get, map};
-ghost use Rattle.trace_record.specs.Packed.{record_in};
+ghost use Rattle.trace_record.specs.Packed.{cell_of, record_in};
 
-use crate::RecordsIter;
+use crate::{CellsIter, RecordsIter};
 use std::marker::Model;
 use trace_record::{PackedRecord, Record};
 use trace_store::Column;
@@ -65,5 +65,12 @@ impl<'a> Records<'a> {
         ensures { result ≡ self.now }
     {
         RecordsIter::new(self.column.iter())
+    }
+
+    /// The inlines and crosslines of the records in order, nothing else of which is read.
+    pub fn cells(&self) -> CellsIter<'_>
+        ensures { result ≡ map cell_of self.now }
+    {
+        CellsIter::new(self.column.iter())
     }
 }

@@ -1,5 +1,5 @@
 -- The record that a packed one stands for.
-use Rattle.std.specs.Prelude.{Option, refl}
+use Rattle.std.specs.Prelude.{ℤ, Option, refl}
 use Rattle.key_counts.specs.Parts.{second_flag, fits_in_word}
 use Rattle.key_counts.specs.Packed.{ratio_in}
 use Rattle.trace_record.specs.Packable.{amplitudes_from, small_parts}
@@ -29,3 +29,7 @@ record_in p = record {
   has_known_name = second_flag p.y.bits;
   small = small_parts _ _ _ _ p.range (fits_in_word (ratio_in p.x) p.x.bits refl refl) (fits_in_word (ratio_in p.y) p.y.bits refl refl);
 }
+
+-- the inline and the crossline of a record
+abbrev pub cell_of : Record → ℤ × ℤ
+cell_of r = (r.inline, r.crossline)

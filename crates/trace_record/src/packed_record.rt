@@ -51,7 +51,7 @@ const _: () = prove!(size_of::<PackedRecord>() == 72);
 
 impl PackedRecord {
     ghost use Rattle.std.specs.Prelude.{◌≡◌};
-    ghost use Rattle.trace_record.specs.Packed.{amplitudes_in, record_in};
+    ghost use Rattle.trace_record.specs.Packed.{amplitudes_in, cell_of, record_in};
 
     /// The record in 72 bytes.
     pub fn of(trace: Record) -> PackedRecord
@@ -98,6 +98,14 @@ impl PackedRecord {
             samples_field: self.samples_field,
             has_known_name: self.y.second(),
         }
+    }
+
+    /// Its inline and its crossline. Takes no memory.
+    #[inline]
+    pub fn cell(self) -> (i32, i32)
+        ensures { result ≡ cell_of (record_in self) }
+    {
+        (self.inline, self.crossline)
     }
 
     #[inline]

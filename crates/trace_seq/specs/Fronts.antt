@@ -22,13 +22,19 @@ AreKept old new = (j : ℕ) → j < length new → front new j ≡ front old j
 abbrev pub AreFronts : List Chunk → List ℕ → Type 0
 AreFronts cs fronts = (g : ℕ) → g < length fronts → slice_index fronts g ≡ front cs (16 * g)
 
+-- so many chunks from the first on have 384 ids each: as many stand in front of each of them, and of the one behind them
+abbrev pub AreEven : List Chunk → ℕ → Type 0
+AreEven cs even = (j : ℕ) → j ≤ even → front cs j ≡ 384 * j
+
 -- how many groups of 16 so many chunks are in, the last with the rest
 abbrev pub groups_of : ℕ → ℕ
 groups_of chunks = (chunks + 15) / 16
 
--- what holds of the whole between two calls: each group has its number, and there is room for those of all chunks
+-- what holds of the whole between two calls: each group has its number, there is room for those of all chunks, and so many
+-- chunks are even as is noted
 pub record IsCounted (s : CountedChunks) : Type 0 where
   pub whole : IsWhole s.list
   pub fronts : AreFronts s.list.chunks.items s.fronts.items
   pub groups : length s.fronts.items ≡ groups_of (length s.list.chunks.items)
   pub room : chunk_count s.list ≤ vec_capacity s.fronts
+  pub even : AreEven s.list.chunks.items s.even

@@ -15,7 +15,8 @@ use std::marker::Model;
 ///
 /// For each group of 16 chunks it keeps how many ids stand in front. `get` finds the group, in two
 /// steps where ids were put behind all others alone, else by halves, and then passes over its
-/// chunks: a number of steps that grows with the logarithm of the chunks. A chunk that a removal
+/// chunks: a number of steps that grows with the logarithm of the chunks. In front of the first
+/// chunk that holds another number of ids than those of a load it finds an id in one step. A chunk that a removal
 /// empties is kept as a spare one.
 #[derive(Drop)]
 pub struct ChunkSeq {
@@ -54,6 +55,7 @@ impl ChunkSeq {
                     count: 0,
                 },
                 fronts: Vec::new(alloc),
+                even: 0,
             },
         }
     }
@@ -81,6 +83,7 @@ impl ChunkSeq {
     }
 
     /// The id at position p; `None` where there is none.
+    #[inline]
     pub fn get(&self, p: u32) -> Option<usize>
         ensures id { result ≡ id_at self.now.ids p }
     {

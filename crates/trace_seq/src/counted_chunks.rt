@@ -8,6 +8,7 @@ ghost use Rattle.trace_seq.specs.Without.{without_each, AreRising};
 
 use crate::chunk::{ROOM, Spot};
 use crate::chunk_list::ChunkList;
+use crate::even::{even_chunks, even_then, find_even};
 use crate::fronts::{GROUP, count, find_group, locate, lower, raise};
 use crate::within::push_within;
 use room::{OutOfMemory, Room};
@@ -17,6 +18,9 @@ use room::{OutOfMemory, Room};
 pub struct CountedChunks {
     pub list: ChunkList,
     pub fronts: Vec<usize>,
+
+    /// So many chunks from the first on are even: they hold as many ids each as those of a load.
+    pub even: usize,
 }
 
 impl CountedChunks {
@@ -35,10 +39,27 @@ impl CountedChunks {
             Err(_) => unreachable!(),
         }
         count(&mut self.fronts, &self.list.chunks);
+        self.even = even_chunks(&self.list.chunks);
     }
 
-    /// Where the id at a place stands, from 0.
+    /// Where the id at a place stands, from 0: in one step among even chunks.
+    #[inline]
     fn find(&self, place: usize) -> Spot
+        requires counted { IsCounted self.now }
+        requires place { place < length (ids_of self.now.list.chunks.items) }
+        ensures place { place_at self.now.list.chunks.items result ≡ place }
+        ensures offset { result.offset < size_at self.now.list.chunks.items result.chunk }
+        ensures chunk { result.chunk < length self.now.list.chunks.items }
+    {
+        match find_even(&self.list.chunks, self.even, place) {
+            Some(spot) => spot,
+            None => self.find_in_group(place),
+        }
+    }
+
+    /// The same, by the numbers in front of groups.
+    #[inline(never)]
+    fn find_in_group(&self, place: usize) -> Spot
         requires counted { IsCounted self.now }
         requires place { place < length (ids_of self.now.list.chunks.items) }
         ensures place { place_at self.now.list.chunks.items result ≡ place }
@@ -78,7 +99,9 @@ impl CountedChunks {
         ensures spares { length self.old.list.spares.items ≤ length self.new.list.spares.items + 1 }
     {
         let front = self.list.count as usize;
+        let chunks = self.list.chunks.len();
         self.list.append(id);
+        self.even = even_then(self.even, chunks, self.list.chunks.len(), front);
         if self.list.chunks.len() > GROUP * self.fronts.len() {
             push_within(&mut self.fronts, front);
         }
@@ -118,6 +141,7 @@ impl CountedChunks {
         ensures spares { self.new.list.spares ≡ self.old.list.spares }
     {
         self.list.put(spot, id);
+        self.even = self.even.min(spot.chunk);
         raise(&mut self.fronts, spot.chunk / GROUP + 1);
     }
 
@@ -177,6 +201,7 @@ impl CountedChunks {
         ensures spares { self.new.list.spares ≡ self.old.list.spares }
     {
         self.list.take_id(spot);
+        self.even = self.even.min(spot.chunk);
         lower(&mut self.fronts, spot.chunk / GROUP + 1);
     }
 
@@ -200,6 +225,7 @@ impl CountedChunks {
     }
 
     /// The id at a place, from 0.
+    #[inline]
     pub fn get(&self, place: usize) -> usize
         requires counted { IsCounted self.now }
         requires place { place < length (ids_of self.now.list.chunks.items) }

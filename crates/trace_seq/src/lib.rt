@@ -13,6 +13,7 @@ mod chunk;
 mod chunk_list;
 mod chunk_seq;
 mod counted_chunks;
+mod even;
 mod fronts;
 mod ids;
 mod laws;

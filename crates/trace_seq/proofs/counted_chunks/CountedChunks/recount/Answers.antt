@@ -7,4 +7,5 @@ returns-clause-counted c = record {
   fronts = rw c.deref.ensures.value at c.count.ensures.fronts;
   groups = omega (arith, c.count.ensures.length, c.in-Ok.ensures.len, c.div_ceil-groups.ensures, c.len.ensures, c.args.self.now.list.chunks.ok, c.resize.new.self.ok);
   room = omega (arith, c.requires.room, c.count.ensures.capacity, c.in-Ok.ensures.capacity);
+  even = rw c.deref-2.ensures.value at c.even_chunks-self.ensures;
 }

@@ -16,8 +16,8 @@ use std::marker::Model;
 /// For each group of 16 chunks it keeps how many ids stand in front. `get` finds the group, in two
 /// steps where ids were put behind all others alone, else by halves, and then passes over its
 /// chunks: a number of steps that grows with the logarithm of the chunks. In front of the first
-/// chunk that holds another number of ids than those of a load it finds an id in one step. A chunk that a removal
-/// empties is kept as a spare one.
+/// chunk that holds another number of ids than those of a load it finds an id in one step. A chunk
+/// that a removal empties is kept as a spare one.
 #[derive(Drop)]
 pub struct ChunkSeq {
     chunks: CountedChunks,

@@ -1,5 +1,5 @@
-// Even chunks: those that hold as many ids as each chunk of a load, from the first on. Among them an
-// id is found in one step.
+// Even chunks: those that hold as many ids as each chunk of a load, from the first on. Among them
+// an id is found in one step.
 ghost use Rattle.std.specs.Prelude.{◌≡◌, ◌⊎◌, ◌+◌, ◌*◌, ◌<◌, ◌≤◌, length, IfSome};
 ghost use Rattle.trace_seq.specs.Chunks.{place_at, size_at};
 ghost use Rattle.trace_seq.specs.Fronts.{AreEven};

@@ -9,6 +9,7 @@ use field_map::Place;
 use num_order::{Order, i16_at, i32_at};
 
 // The number at a place of two bytes.
+#[inline(always)]
 pub(crate) fn short_in(order: Order, main: &[u8], place: Place) -> i16
     requires main { length main.now ≡ 240 }
     requires place { IsShort place }
@@ -19,6 +20,7 @@ pub(crate) fn short_in(order: Order, main: &[u8], place: Place) -> i16
 }
 
 // The number at a place of two or four bytes.
+#[inline(always)]
 pub(crate) fn signed_in(order: Order, main: &[u8], place: Place) -> i32
     requires main { length main.now ≡ 240 }
     requires place { IsNumber place }

@@ -105,6 +105,7 @@ fn record_by(
 }
 
 // The value at the place of a geometry name.
+#[inline(always)]
 fn value_at(view: &TraceView<'_>, main: &[u8], place: Place) -> i32
     requires main { main.now ≡ main_header (bytes_of view.now) }
     requires place { IsNumber place }
@@ -121,6 +122,7 @@ fn value_at(view: &TraceView<'_>, main: &[u8], place: Place) -> i32
 }
 
 // The coordinate scalar at its place.
+#[inline(always)]
 fn scalar_at(view: &TraceView<'_>, main: &[u8], place: Place) -> i16
     requires main { main.now ≡ main_header (bytes_of view.now) }
     requires place { IsShort place }

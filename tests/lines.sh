@@ -20,7 +20,7 @@ wrong 'lines of more than 100 columns' "$(LC_ALL=C.UTF-8 grep -nHE '^.{101,}' "$
 # takes its line away where it is within the limits; who cannot but make one longer writes that here too, to be seen.
 larger='
 trace_store    94 1573 its edits are methods of one struct with one invariant, each with its contract
-bench_rules    91 1773 the words of edits, queries, conditions and answers, with their small functions, are one vocabulary of one definition
+bench_rules    90 1768 the words of edits, queries, conditions and answers, with their small functions, are one vocabulary of one definition
 live_volume    97 2469 its edits and queries are methods of one struct with one invariant
 script_words  140 1990 each word of a script is read by a function of its own
 script_text   126 1890 each answer and each refusal is printed by a function of its own

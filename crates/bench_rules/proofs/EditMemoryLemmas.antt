@@ -15,7 +15,6 @@ use Rattle.bench_rules.specs.declared.operator.Operator.{Operator}
 use Rattle.bench_rules.specs.declared.refusal.Refusal.{Refusal}
 use Rattle.bench_rules.specs.declared.refusal.Refusal.TheVariants.{NoPlace, DoesNotFit, NoSample, Frame, OutOfMemory, ZeroDivisor}
 use Rattle.bench_rules.specs.Computed.{Formula, applied, chained, chained_from, computed_in, divides, is_in_range, stepped, steps_in, term_in, unless_refused}
-use Rattle.bench_rules.specs.FilledSamples.{sample_value_refusal, samples_refusal}
 use Rattle.bench_rules.specs.Refused.{values_refusal}
 use Rattle.bench_rules.specs.SetRefusals.{changes_length, set_refusal}
 use Rattle.bench_rules.specs.SwappedFields.{half_swapped, swap_refusal}
@@ -52,13 +51,6 @@ swap_memory h places t e =
     let there = past (not (has_place h t places.0 && has_place h t places.1)) NoPlace _ (λ k. cc) e in
     either (set_refusal h t (Some places.0) (value_at h t places.1)) (set_refusal h (half_swapped h places t) (Some places.1) (value_at h t places.0))
     (set_memory h t (Some places.0) (value_at h t places.1)) (set_memory h (half_swapped h places t) (Some places.1) (value_at h t places.0)) there
-
-pub sample_value_memory : (f : Option ValueFormat) (x : ℤ) → sample_value_refusal f x ≡ Some OutOfMemory → ⊥
-sample_value_memory None x e = cc
-sample_value_memory (Some f) x e = refused_unless (sample_fits f x) DoesNotFit (λ k. cc) e
-
-pub samples_memory : (h : Head) (first last : ℕ) (t : List ℕ) → samples_refusal h first last t ≡ Some OutOfMemory → ⊥
-samples_memory h first last t e = refused_unless (nat_lt (max first last) (sample_count h t)) (NoSample (max first last) (sample_count h t)) (λ k. cc) e
 
 pub values_memory : (f : Option ValueFormat) (h : Head) (t : List ℕ) (k : ℕ) (xs : List ℤ) → values_refusal f h t k xs ≡ Some OutOfMemory → ⊥
 values_memory None h t k xs e = cc

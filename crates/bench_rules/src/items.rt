@@ -29,11 +29,4 @@ impl<T: Drop> Items<T> {
     {
         self.inner.as_slice()
     }
-
-    /// The vector that the list was made from. Takes no memory.
-    pub fn into_vec(self) -> Vec<T>
-        ensures { result.items ≡ self }
-    {
-        self.inner
-    }
 }

@@ -1,11 +1,14 @@
 -- The number that is found stands most often, and there is one such number.
-use Rattle.std.specs.Prelude.{◌≡◌, ℕ, ℤ, ◌<◌, ◌≤◌, ◌≤ℤ◌, ◌==◌, ◌⊎◌, Bool, true, false, cond, List, [], ◌∷◌, Option, Some, None, MatchOption, nat_lt, int_lt, length, refl, zero, suc}
+use Rattle.std.specs.Prelude.{◌≡◌, ℕ, ℤ, ◌<◌, ◌≤◌, ◌≤ℤ◌, ◌==◌, ◌&&◌, ◌⊎◌, Bool, true, false, cond, List, [], ◌∷◌, Option, Some, None, MatchOption, nat_lt, int_lt, length, refl, zero, suc}
 use Rattle.std.specs.Int.{int_min}
 use Rattle.std.specs.Option.{option_map_or}
 use Rattle.std.proofs.Common.{arith, sym, ap, ◌∙◌, inl, inr, subst}
 use Rattle.std.proofs.lemmas.Int.{ints}
-use Rattle.std.proofs.lemmas.List.Sorted.{sum_by-IsPermutation, length_permutation}
+use Rattle.std.proofs.lemmas.List.Sorted.{sum_by-IsPermutation, length_permutation, IsPermutation-refl}
 use Rattle.std.specs.List.Sorted.{IsPermutation}
+use Rattle.std.specs.List.{list_all}
+use Rattle.std.specs.Ordering.{int_eq}
+use Rattle.std.proofs.lemmas.Bool.Decides.{Decides-int_eq}
 use Rattle.std.proofs.lemmas.Bool.{eqb-true, eqb-false, ltb-true, ltb-false}
 use Rattle.common_numbers.specs.Commonest.{times, commoner, commonest_among, commonest, IsCommonest}
 use Rattle.common_numbers.proofs.TimesLemmas.{one_if, times-cons, one_if-same, same_or_other}
@@ -149,3 +152,33 @@ commonest-empty ns sorted p e = by ns (sym (length_permutation ns sorted p) ∙ 
     by : (l : List ℤ) → length l ≡ 0 → None ≡ commonest_among l l
     by [] f = refl
     by (n ∷ l) f = absurd (omega arith)
+
+-- what stands in a list of one number is that number
+all-one : (n : ℤ) (ms : List ℤ) → list_all (λ m. int_eq m n) ms ≡ true → (c : ℤ) → 0 < times c ms → c ≡ n
+all-one n [] all c h = absurd (omega (arith, h))
+all-one n (m ∷ ms) all c h = elim (front_or_behind c m ms h) [
+  | inl here ↦ sym here ∙ (Decides-int_eq m n).0 (and_left (int_eq m n) all)
+  | inr behind ↦ all-one n ms (and_right (int_eq m n) all) c behind
+]
+  where
+    and_left : (b : Bool) → (b && list_all (λ m. int_eq m n) ms) ≡ true → b ≡ true
+    and_left true e = refl
+    and_left false e = e
+
+    and_right : (b : Bool) → (b && list_all (λ m. int_eq m n) ms) ≡ true → list_all (λ m. int_eq m n) ms ≡ true
+    and_right true e = e
+    and_right false e = absurd cc
+
+-- and it is the commonest
+pub commonest-one : (n : ℤ) (ms : List ℤ) → list_all (λ m. int_eq m n) ms ≡ true → Some n ≡ commonest (n ∷ ms)
+commonest-one n ms all = by (commonest (n ∷ ms)) (commonest_found (n ∷ ms))
+  where
+    by : (c : Option ℤ) → MatchOption c (n ∷ ms ≡ []) (IsCommonest (n ∷ ms)) → Some n ≡ c
+    by None none = absurd cc
+    by (Some c) found = elim (front_or_behind c n ms found.stands) [
+      | inl here ↦ ap Some here
+      | inr behind ↦ ap Some (sym (all-one n ms all c behind))
+    ]
+
+pub commonest-nothing : (ns : List ℤ) → length ns ≡ 0 → None ≡ commonest ns
+commonest-nothing ns none = commonest-empty ns ns (IsPermutation-refl ns) none

@@ -1,6 +1,7 @@
 ghost use Rattle.std.specs.Prelude.{◌≡◌, ◌∷◌, IfOk, IsErr};
+ghost use Rattle.std.specs.List.{list_all};
 ghost use Rattle.std.specs.List.Sorted.{IsSorted};
-ghost use Rattle.std.specs.Ordering.{int_cmp};
+ghost use Rattle.std.specs.Ordering.{int_cmp, int_eq};
 ghost use Rattle.room.specs.Refusals.{Rises};
 ghost use Rattle.common_numbers.specs.Commonest.{IsCommonest, commonest as commonest_of};
 
@@ -14,8 +15,30 @@ struct Run {
 }
 
 /// The number that stands most often in the list, and of several the least; nothing of an empty
-/// list. Takes 8 bytes a number, for a copy that it sorts, and is refused only where those are.
+/// list. Where all are one number it takes no memory, else 8 bytes a number, for a copy that it
+/// sorts; it is refused only where those are.
 pub fn commonest(room: &mut Room, numbers: &[i64]) -> Result<Option<i64>, OutOfMemory>
+    ensures number { IfOk result (λ c. c ≡ commonest_of numbers.now) }
+    ensures memory { Rises (IsErr result) room.old room.new }
+{
+    let Some((first, others)) = numbers.split_first() else {
+        return Ok(None);
+    };
+    if are_all(*first, others) {
+        return Ok(Some(*first));
+    }
+    commonest_by_runs(room, numbers)
+}
+
+// Whether each of the numbers is this one.
+fn are_all(number: i64, numbers: &[i64]) -> bool
+    ensures { result ≡ list_all (λ m. int_eq m number) numbers.now }
+{
+    numbers.iter().all(|other| *other == number)
+}
+
+// The number that stands most often, whatever the numbers are.
+fn commonest_by_runs(room: &mut Room, numbers: &[i64]) -> Result<Option<i64>, OutOfMemory>
     ensures number { IfOk result (λ c. c ≡ commonest_of numbers.now) }
     ensures memory { Rises (IsErr result) room.old room.new }
 {

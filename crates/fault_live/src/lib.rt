@@ -1,8 +1,8 @@
 //! Faults of a volume's headers: what does not agree with the file, with the first trace or with an
 //! earlier trace. Positions of traces count from 1. A `Faults` runs with the traces of a volume;
-//! `report` makes the list of faults from it and the records. `add`, `from_records` and `report`
-//! may take memory, and answer want of it only where a growth was refused in that call; the other
-//! calls take none. The call that is named for a law does nothing: its contract is the law.
+//! `report` makes the list of faults from it and the records. `add`, `add_beside`, `from_records`
+//! and `report` may take memory, and answer want of it only where a growth was refused in that
+//! call; the other calls take none. The call that is named for a law does nothing: its contract is the law.
 #![tactic(auto)]
 
 mod checks;

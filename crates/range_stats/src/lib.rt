@@ -4,8 +4,8 @@
 //! calls that are named for a law do nothing: their contract is the law.
 //!
 //! `add` and `add_beside` take memory, only for a value that no counted trace has, and leave all as
-//! it was where a growth is refused; `from_records` takes it for all that it counts. The other
-//! calls always answer.
+//! it was where a growth is refused; `from_records` takes it for all that it counts. Each of them
+//! gives up only where a growth was refused in that call. The other calls always answer.
 #![tactic(auto)]
 
 mod coordinate_counts;

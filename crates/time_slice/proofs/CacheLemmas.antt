@@ -16,6 +16,8 @@ use Rattle.key_counts.specs.Rising.{rising}
 use Rattle.trace_record.specs.declared.record.Record.{Record}
 use Rattle.bench_rules.specs.declared.row.Row.{Row}
 use Rattle.bench_rules.specs.SlicesOfRecords.{with_sample_of}
+use Rattle.trace_record.specs.Packed.{cell_of}
+use Rattle.time_slice.specs.Shown.{row_at}
 use Rattle.bench_rules.specs.Slices.{row_cmp, row_of, rows_from, slice_rows, slice_of}
 use Rattle.bench_rules.specs.KeptSlices.{Cache, kept_of, row_again, rows_again, is_from, cache_after_slice, cache_after_change, IsRight, IsRightOf, AreRightOf}
 use Rattle.time_slice.specs.CacheLaws.{NumbersAfterAsked, NumbersAfterForgotten, AskedStaysRight, ForgottenStaysRight, RowsComeBack, RightOfRecords}
@@ -97,14 +99,28 @@ rows_come_back h fields k traces =
     let again = slice_again facts (map (λ t. sample_of h t k) traces) in
     ap (λ ts. rows_again facts (kept_of (slice_rows ts))) (sym (beside_own h fields k traces)) ∙ again ∙ ap (λ ts. slice_rows ts) (beside_own h fields k traces)
 
--- the row of the record at a place is got back
-pub row_at_place : (records : List Record) (p place : ℕ) (v : ℤ) (r : Record) → place ≡ p - 1 → slice_get records place ≡ Some r → row_again (map facts_of records) (p, v) ≡ row_of p (facts_of r) (Some v)
-row_at_place records p place v r there here =
-    ap (λ (o : Option Facts). option_map_or (λ f. row_of p f (Some v)) o []) (slice_get-map facts_of records (p - 1) ∙ ap (option_map facts_of) (ap (slice_get records) (sym there) ∙ here))
+-- a row tells the inline and the crossline of its trace
+pub row_of_cell : (p : ℕ) (f : Facts) (s : Option ℤ) → row_at p (f.inline, f.crossline) s ≡ row_of p f s
+row_of_cell p f None = refl
+row_of_cell p f (Some v) = refl
 
-pub no_row_at : (records : List Record) (p place : ℕ) (v : ℤ) → place ≡ p - 1 → slice_get records place ≡ None → row_again (map facts_of records) (p, v) ≡ []
-no_row_at records p place v there here =
-    ap (λ (o : Option Facts). option_map_or (λ f. row_of p f (Some v)) o []) (slice_get-map facts_of records (p - 1) ∙ ap (option_map facts_of) (ap (slice_get records) (sym there) ∙ here))
+-- the row of the record at a place is got back, from the cell of that record
+row_again_of : (records : List Record) (p place : ℕ) (v : ℤ) → place ≡ p - 1
+    → row_again (map facts_of records) (p, v) ≡ option_map_or (λ cell. row_at p cell (Some v)) (option_map cell_of (slice_get records place)) []
+row_again_of records p place v there =
+    ap (λ (o : Option Facts). option_map_or (λ f. row_of p f (Some v)) o []) (slice_get-map facts_of records (p - 1) ∙ ap (λ k. option_map facts_of (slice_get records k)) (sym there))
+    ∙ by (slice_get records place)
+  where
+    by : (o : Option Record) → option_map_or (λ f. row_of p f (Some v)) (option_map facts_of o) [] ≡ option_map_or (λ cell. row_at p cell (Some v)) (option_map cell_of o) []
+    by None = refl
+    by (Some r) = refl
+
+pub row_at_place : (records : List Record) (p place : ℕ) (v : ℤ) (cell : ℤ × ℤ) → place ≡ p - 1 → option_map cell_of (slice_get records place) ≡ Some cell
+    → row_again (map facts_of records) (p, v) ≡ row_at p cell (Some v)
+row_at_place records p place v cell there here = row_again_of records p place v there ∙ ap (λ o. option_map_or (λ c. row_at p c (Some v)) o []) here
+
+pub no_row_at : (records : List Record) (p place : ℕ) (v : ℤ) → place ≡ p - 1 → option_map cell_of (slice_get records place) ≡ None → row_again (map facts_of records) (p, v) ≡ []
+no_row_at records p place v there here = row_again_of records p place v there ∙ ap (λ o. option_map_or (λ c. row_at p c (Some v)) o []) here
 
 -- right slices that records give are right after one was asked for, and after some were forgotten
 pub asked_stays_right_of : (h : Head) (records : List Record) (traces : List (List ℕ)) (room k : ℕ) (cache : Cache)

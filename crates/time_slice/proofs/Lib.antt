@@ -6,4 +6,3 @@ pub mod KeptLemmas
 pub mod FitLemmas
 pub mod TurnLemmas
 pub mod WalkLemmas
-pub mod MemoryLemmas

@@ -1,15 +1,14 @@
--- Records that are asked for one after another.
-use Rattle.std.specs.Prelude.{◌≡◌, ℕ, ◌+◌, zero, suc, List, [], ◌∷◌, slice_get, Option, Some, None, refl}
+-- Items that are asked for one after another, as the cells of cells are.
+use Rattle.std.specs.Prelude.{◌≡◌, ℕ, ℤ, ◌+◌, zero, suc, List, [], ◌∷◌, slice_get, Option, Some, None, refl}
 use Rattle.std.proofs.Common.{arith, ap, sym, ◌∙◌, drop}
 use Rattle.std.specs.Option.{MatchOption}
-use Rattle.trace_record.specs.declared.record.Record.{Record}
 
 -- what is given of a list and left of it, from a place on
-abbrev pub Given : List Record → ℕ → Option Record → List Record → Type 0
-Given records place given left = MatchOption given ((drop place records ≡ []) × (left ≡ [])) (λ next. drop place records ≡ next ∷ left)
+abbrev pub Given : List (ℤ × ℤ) → ℕ → Option (ℤ × ℤ) → List (ℤ × ℤ) → Type 0
+Given cells place given left = MatchOption given ((drop place cells ≡ []) × (left ≡ [])) (λ next. drop place cells ≡ next ∷ left)
 
 -- the first of those from a place on is the one at the place
-pub given_is : (records : List Record) (place : ℕ) (given : Option Record) (left : List Record) → Given records place given left → given ≡ slice_get records place
+pub given_is : (cells : List (ℤ × ℤ)) (place : ℕ) (given : Option (ℤ × ℤ)) (left : List (ℤ × ℤ)) → Given cells place given left → given ≡ slice_get cells place
 given_is [] place None left told = refl
 given_is [] zero (Some next) left told = absurd cc
 given_is [] (suc place) (Some next) left told = absurd cc
@@ -18,7 +17,7 @@ given_is (first ∷ rest) zero (Some next) left told = let same : first ≡ next
 given_is (first ∷ rest) (suc place) given left told = given_is rest place given left told
 
 -- and the others are those from the next place on
-pub left_is : (records : List Record) (place : ℕ) (given : Option Record) (left : List Record) → Given records place given left → left ≡ drop (place + 1) records
+pub left_is : (cells : List (ℤ × ℤ)) (place : ℕ) (given : Option (ℤ × ℤ)) (left : List (ℤ × ℤ)) → Given cells place given left → left ≡ drop (place + 1) cells
 left_is [] place None left told = let at : place + 1 ≡ suc place = omega arith in rw at told.1
 left_is [] zero (Some next) left told = absurd cc
 left_is [] (suc place) (Some next) left told = absurd cc

@@ -7,8 +7,8 @@ ghost use Rattle.bench_rules.specs.KeptSlices.{kept_of, row_again, rows_again};
 ghost use Rattle.time_slice.specs.Fitting.{has_signs, value_fits};
 ghost use Rattle.time_slice.specs.Shown.{pair_of};
 
+use crate::cell_walk::CellWalk;
 use crate::of_volume::push_row;
-use crate::record_walk::RecordWalk;
 use bench_rules::Row;
 use num_order::{Kind, Order};
 use record_table::Records;
@@ -92,7 +92,7 @@ impl KeptRows {
         ensures memory { Rises (IsErr result) room.old room.new }
     {
         let mut rows = room.told(Vec::with_capacity(room.alloc(), self.rows.len()))?;
-        let mut walk = RecordWalk::new(records);
+        let mut walk = CellWalk::new(records);
         for kept in &self.rows {
             push_again(room, &mut rows, &mut walk, *kept, self.signed)?;
         }
@@ -114,7 +114,7 @@ fn may_be_signed(format: Format) -> bool
 fn push_again(
     room: &mut Room,
     rows: &mut Vec<Row>,
-    records: &mut RecordWalk<'_>,
+    records: &mut CellWalk<'_>,
     kept: KeptRow,
     signed: bool,
 ) -> Result<(), OutOfMemory>
@@ -124,8 +124,8 @@ fn push_again(
     ensures memory { Rises (IsErr result) room.old room.new }
 {
     let place = (kept.position as usize).saturating_sub(1);
-    if let Some(record) = records.get(place) {
-        push_row(room, rows, &record, kept.position, Some(kept.value(signed)))?;
+    if let Some(cell) = records.get(place) {
+        push_row(room, rows, cell, kept.position, Some(kept.value(signed)))?;
     }
     Ok(())
 }

@@ -13,11 +13,11 @@
 #![tactic(auto)]
 
 mod answer;
+mod cell_walk;
+mod cells_ahead;
 mod kept_rows;
 mod laws;
 mod of_volume;
-mod record_walk;
-mod records_ahead;
 mod slice_cache;
 mod slice_fault;
 

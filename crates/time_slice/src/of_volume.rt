@@ -4,13 +4,13 @@ ghost use Rattle.frame_cut.specs.Traces.{count_of, is_trace, trace_at};
 ghost use Rattle.sample_codes.specs.Formats.{value_width, sample_value, sample_fits};
 ghost use Rattle.trace_view.specs.Shown.{head_of, bytes_of};
 ghost use Rattle.trace_view.specs.Values.{sample_of};
-ghost use Rattle.trace_record.specs.Facts.{facts_of};
 ghost use Rattle.trace_record.specs.Packed.{record_in};
 ghost use Rattle.edit_overlay.specs.CountedVolume.{after_look, IsSeen};
 ghost use Rattle.time_slice.specs.Faults.{IsOfRead};
 ghost use Rattle.time_slice.specs.Fitting.{value_fits};
+ghost use Rattle.time_slice.specs.Shown.{row_at};
 ghost use Rattle.bench_rules.specs.SlicesOfRecords.{with_sample_of};
-ghost use Rattle.bench_rules.specs.Slices.{row_of, rows_from, slice_rows};
+ghost use Rattle.bench_rules.specs.Slices.{rows_from, slice_rows};
 
 use crate::SliceFault;
 use bench_rules::Row;
@@ -20,7 +20,7 @@ use frame_cut::Head;
 use num_order::Order;
 use room::{OutOfMemory, Room};
 use sample_codes::ValueFormat;
-use trace_record::{PackedRecord, Record};
+use trace_record::PackedRecord;
 use trace_view::TraceView;
 
 /// Slice k, counted from 0: a row for each trace that has sample k, where samples have values, in
@@ -74,7 +74,7 @@ fn rows_in_place(
         overlay.read_ahead(p, near);
         let packed = overlay.payload(p);
         let sample = sample_in(overlay, p, k)?;
-        push_row(room, &mut rows, &packed.record(), p, sample)?;
+        push_row(room, &mut rows, packed.cell(), p, sample)?;
     }
     Ok(rows)
 }
@@ -104,22 +104,23 @@ fn usual_place(head: Head, k: u32) -> u64 {
     headers + u64::from(head.format.width()) * u64::from(k)
 }
 
-// The row of the trace at a position at the end of the rows, where it has the sample.
+// The row of the trace of this inline and crossline at a position at the end of the rows, where it
+// has the sample.
 pub(crate) fn push_row(
     room: &mut Room,
     rows: &mut Vec<Row>,
-    trace: &Record,
+    cell: (i32, i32),
     position: u32,
     sample: Option<i128>,
 ) -> Result<(), OutOfMemory>
     ensures rows { OnOk result (rows.new.items ≡ rows.old.items ++
-        row_of position (facts_of trace.now) sample) }
+        row_at position cell sample) }
     ensures memory { Rises (IsErr result) room.old room.new }
 {
     if let Some(value) = sample {
         room.told_back(rows.push(Row {
-            inline: trace.inline,
-            crossline: trace.crossline,
+            inline: cell.0,
+            crossline: cell.1,
             position,
             value,
         }))?;

@@ -11,7 +11,7 @@
 //! `raise` takes memory only for a key that is not held, and leaves all as it was where a growth is
 //! refused, but that a row may be added or not; `from_keys`, `within` and `prepare` take it for
 //! what they make, `OffsetRectangle::by_cell` for the offsets of its cells, and `list` for the
-//! list. No other call takes memory.
+//! list. Each gives up only where a growth was refused in that call. No other call takes memory.
 #![tactic(auto)]
 
 mod interval;

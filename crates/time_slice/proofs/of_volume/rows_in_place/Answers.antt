@@ -1,4 +1,4 @@
-use Rattle.std.proofs.Common.{◌≡◌, ◌+◌, ◌-◌, ◌<◌, ◌++◌, ◌∙◌, ℕ, List, [], Some, ap, subst, sym, arith, get_or, IfSome, IsTrue}
+use Rattle.std.proofs.Common.{◌≡◌, ◌+◌, ◌-◌, ◌<◌, ◌++◌, ◌∙◌, ℕ, ℤ, List, [], Some, ap, subst, sym, arith, get_or, IfSome, IsTrue}
 use Rattle.std.specs.Prelude.{slice_get}
 use Rattle.frame_cut.specs.Traces.{count_of, trace_at}
 use Rattle.frame_cut.specs.Volume.{Volume}
@@ -6,9 +6,10 @@ use Rattle.trace_view.specs.Values.{sample_of}
 use Rattle.trace_record.specs.Facts.{facts_of}
 use Rattle.trace_record.specs.Packed.{record_in}
 use Rattle.trace_record.specs.declared.packed_record.PackedRecord.{PackedRecord}
-use Rattle.trace_record.specs.declared.record.Record.{Record}
 use Rattle.edit_overlay.specs.CountedVolume.{CountedVolume, IsSeen}
 use Rattle.time_slice.specs.Fitting.{value_fits}
+use Rattle.time_slice.specs.Shown.{row_at}
+use Rattle.time_slice.proofs.CacheLemmas.{row_of_cell}
 use Rattle.bench_rules.specs.Slices.{row_of}
 use Rattle.bench_rules.specs.declared.row.Row.{Row}
 use Rattle.time_slice.proofs.PassLemmas.{row_is_written, all_written, fits_more}
@@ -34,7 +35,9 @@ loop-at-preserved c =
     let here : slice_get o.payloads i ≡ Some packed =
     ap (λ (ps : List PackedRecord). slice_get ps i) (sym seen.payloads) ∙ (ap (λ (n : ℕ). slice_get now.payloads n) (sym place) ∙ c.payload-packed.ensures) in
     let grew : new ≡ old ++ row_of (i + 1) (facts_of (record_in packed)) s =
-    c.in_ok-push_row.ensures.rows ∙ ap (λ (r : Record). old ++ row_of (i + 1) (facts_of r) s) c.record.ensures in
+    c.in_ok-push_row.ensures.rows
+    ∙ ap (λ (cell : ℤ × ℤ). old ++ row_at (i + 1) cell s) c.cell.ensures
+    ∙ ap (λ (l : List Row). old ++ l) (row_of_cell (i + 1) (facts_of (record_in packed)) s) in
     record {
       written = λ sure. row_is_written v.head k i o.payloads v.traces packed s old new _ here there
           (sample.sample sure ∙ (ap (λ (u : Volume). sample_of u.head (trace_at u (i + 1)) k) seen.volume ∙ ap (λ (n : ℕ). sample_of v.head (get_or v.traces n []) k) place))

@@ -24,14 +24,10 @@ past : (b : Bool) (f : Refusal) (y : Option Refusal) → (f ≡ OutOfMemory → 
 past true f y other e = let same : f ≡ OutOfMemory = cc in absurd (other same)
 past false f y other e = e
 
--- one check alone, which refuses where it holds, or where it does not
+-- one check alone, which refuses where it holds
 refused_if : (b : Bool) (f : Refusal) → (f ≡ OutOfMemory → ⊥) → (if b then Some f else None) ≡ Some OutOfMemory → ⊥
 refused_if true f other e = let same : f ≡ OutOfMemory = cc in other same
 refused_if false f other e = cc
-
-refused_unless : (b : Bool) (f : Refusal) → (f ≡ OutOfMemory → ⊥) → (if b then None else Some f) ≡ Some OutOfMemory → ⊥
-refused_unless true f other e = cc
-refused_unless false f other e = let same : f ≡ OutOfMemory = cc in other same
 
 -- one of two
 either : (a b : Option Refusal) → (a ≡ Some OutOfMemory → ⊥) → (b ≡ Some OutOfMemory → ⊥) → option_or a b ≡ Some OutOfMemory → ⊥

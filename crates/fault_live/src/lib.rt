@@ -2,7 +2,8 @@
 //! earlier trace. Positions of traces count from 1. A `Faults` runs with the traces of a volume;
 //! `report` makes the list of faults from it and the records. `add`, `add_beside`, `from_records`
 //! and `report` may take memory, and answer want of it only where a growth was refused in that
-//! call; the other calls take none. The call that is named for a law does nothing: its contract is the law.
+//! call; the other calls take none. The call that is named for a law does nothing: its contract is
+//! the law.
 #![tactic(auto)]
 
 mod checks;

@@ -3,8 +3,8 @@
 //! and of which the problem says the same. `fault_groups` has the groups of a list of faults, and
 //! the other calls each have that of one suspicion, which only the traces together show.
 //!
-//! Positions of traces count from 1. Each call may take memory, and gives up only where a growth was
-//! refused in that call.
+//! Positions of traces count from 1. Each call may take memory, and gives up only where a growth
+//! was refused in that call.
 #![tactic(auto)]
 
 mod by_fault;

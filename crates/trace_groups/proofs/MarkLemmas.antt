@@ -1,11 +1,13 @@
 -- The marks of traces, one trace more.
-use Rattle.std.specs.Prelude.{◌≡◌, ℕ, ℤ, ◌+◌, ◌<◌, List, [], ◌∷◌, ◌++◌, length, Option, option_map}
+use Rattle.std.specs.Prelude.{◌≡◌, ℕ, ℤ, ◌+◌, ◌<◌, List, [], ◌∷◌, ◌++◌, length, map, Option, option_map}
 use Rattle.std.proofs.Common.{arith, sym, ap, ◌∙◌, append_assoc, length-append, subst, take, get_or}
-use Rattle.std.proofs.lemmas.List.{append-nil, take_more, length-take-le}
+use Rattle.std.proofs.lemmas.List.{append-nil, length-map, map-append, take_more, length-take-le}
 use Rattle.std.proofs.lemmas.Result.{IfOk-weaker}
 use Rattle.std.specs.Result.{IfOk}
 use Rattle.std.specs.declared.result.Result.{Result}
 use Rattle.room.specs.declared.out_of_memory.OutOfMemory.{OutOfMemory}
+use Rattle.trace_record.specs.Facts.{Facts, facts_of}
+use Rattle.trace_record.specs.declared.record.Record.{Record}
 use Rattle.trace_groups.specs.declared.group.TraceGroup.{TraceGroup}
 use Rattle.trace_groups.specs.declared.mark.Mark.{Mark}
 use Rattle.trace_groups.specs.declared.problem.TraceProblem.{TraceProblem}
@@ -45,6 +47,14 @@ module _ {A : Type 0} (facts : A → Option (ℤ × ℤ)) where
   tally_along xs i d inside p at o same t u push h =
       let count = length-take-le i xs (omega arith) in
       subst (λ l. IsTallyOf (marks_of facts l) u) (sym (take_more xs i d inside)) (tally_behind (take i xs) (get_or xs i d) p (omega arith) o same t u push h)
+
+-- a tally of records that were passed over, with one of them more behind the others
+pub record_behind : (facts : Facts → Option (ℤ × ℤ)) (ys : List Record) (x : Record) (position : ℕ) → position ≡ length ys
+    → (o : Option (ℤ × ℤ)) → o ≡ facts (facts_of x) → (t u : RunTally) → ((marks : List Mark) → IsTallyOf marks t → IsTallyOf (marks ++ marks_at (position + 1) o) u)
+    → IsTallyOf (marks_of facts (map facts_of ys)) t → IsTallyOf (marks_of facts (map facts_of (ys ++ x ∷ []))) u
+record_behind facts ys x position at o same t u push h =
+    let here : position + 1 ≡ length (map facts_of ys) + 1 = ap (λ n. n + 1) (at ∙ sym (length-map ys facts_of)) in
+    subst (λ l. IsTallyOf (marks_of facts l) u) (sym (map-append facts_of ys (x ∷ []))) (tally_behind facts (map facts_of ys) (facts_of x) (position + 1) here o same t u push h)
 
 -- the group that a tally of these marks gives
 pub grouped : (r : Result (Option TraceGroup) OutOfMemory) (problem : TraceProblem) (t : RunTally) (ms : List Mark) → IsTallyOf ms t

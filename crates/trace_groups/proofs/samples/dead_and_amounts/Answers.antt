@@ -9,7 +9,7 @@ use Rattle.trace_groups.specs.Groups.{marks_of}
 use Rattle.trace_groups.specs.Loud.{amount_of}
 use Rattle.trace_groups.specs.OfTally.{IsTallyOf}
 use Rattle.trace_groups.specs.Suspects.{dead_facts}
-use Rattle.trace_groups.proofs.MarkLemmas.{tally_behind}
+use Rattle.trace_groups.proofs.MarkLemmas.{record_behind}
 use Rattle.trace_groups.proofs.samples.dead_and_amounts.Goals as goal
 
 alone : (o : Option ℕ) → option_to_list o ≡ cons_option o []
@@ -29,14 +29,11 @@ loop-trace-preserved c =
     let h = c.loop-trace.invariant in
     let ys = c.loop-trace.yielded in
     let x = c.in-Some.trace in
-    let count : length (ys ++ x ∷ []) ≡ length ys + 1 = length-append ys (x ∷ []) in
-    let at : c.loop-trace.position + 1 ≡ length (map facts_of ys) + 1 = ap (λ n. n + 1) (h.1 ∙ sym (length-map ys facts_of)) in (
+    let count : length (ys ++ x ∷ []) ≡ length ys + 1 = length-append ys (x ∷ []) in (
       append_assoc ys (x ∷ []) c.next.new.self ∙ ap (λ (l : List Record). ys ++ l) (sym c.in-Some.ensures.steps) ∙ h.0,
       ap (λ n. n + 1) h.1 ∙ sym count,
       (let more = c.in_ok-push_any.ensures.within (length ys) h.2 in (omega (arith, count, more.0), omega (arith, count, more.1))),
-      subst (λ l. IsTallyOf (marks_of (dead_facts c.args.floats) l) c.push_any.new.self) (sym (map-append facts_of ys (x ∷ [])))
-          (tally_behind (dead_facts c.args.floats) (map facts_of ys) (facts_of x) (c.loop-trace.position + 1) at c.facts_in.result c.facts_in.ensures
-          c.loop-trace.tally c.push_any.new.self c.in_ok-push_any.ensures.tally h.3),
+      record_behind (dead_facts c.args.floats) ys x c.loop-trace.position h.1 c.facts_in.result c.facts_in.ensures c.loop-trace.tally c.push_any.new.self c.in_ok-push_any.ensures.tally h.3,
       (c.in_ok-push_amount.ensures.items ∙ behind c.args.floats ys x c.amount_of.result c.loop-trace.amounts.items c.amount_of.ensures h.4),
       grind arith,
     )

@@ -4,7 +4,7 @@ use Rattle.trace_record.specs.Facts.{facts_of}
 use Rattle.trace_record.specs.declared.record.Record.{Record}
 use Rattle.trace_groups.specs.Groups.{marks_of}
 use Rattle.trace_groups.specs.OfTally.{IsTallyOf}
-use Rattle.trace_groups.proofs.MarkLemmas.{tally_behind, grouped, one_more}
+use Rattle.trace_groups.proofs.MarkLemmas.{record_behind, grouped, one_more}
 use Rattle.trace_groups.proofs.suspect_groups.group_by.Goals as goal
 
 pub loop-trace-init : goal.loop-trace-init
@@ -33,14 +33,11 @@ loop-trace-preserved g c =
     let h = c.loop-trace.invariant in
     let ys = c.loop-trace.yielded in
     let x = c.in-Some.trace in
-    let count : length (ys ++ x ∷ []) ≡ length ys + 1 = length-append ys (x ∷ []) in
-    let at : c.loop-trace.position + 1 ≡ length (map facts_of ys) + 1 = ap (λ n. n + 1) (h.1 ∙ sym (length-map ys facts_of)) in (
+    let count : length (ys ++ x ∷ []) ≡ length ys + 1 = length-append ys (x ∷ []) in (
       append_assoc ys (x ∷ []) c.next.new.self ∙ ap (λ (l : List Record). ys ++ l) (sym c.in-Some.ensures.steps) ∙ h.0,
       ap (λ n. n + 1) h.1 ∙ sym count,
       (let more = c.in_ok-push_any.ensures.within (length ys) h.2 in (omega (arith, count, more.0), omega (arith, count, more.1))),
-      subst (λ l. IsTallyOf (marks_of (g.S.Suspicion.facts c.args.suspicion.now) l) c.push_any.new.self) (sym (map-append facts_of ys (x ∷ [])))
-          (tally_behind (g.S.Suspicion.facts c.args.suspicion.now) (map facts_of ys) (facts_of x) (c.loop-trace.position + 1) at c.facts_in.result c.facts_in.ensures
-          c.loop-trace.tally c.push_any.new.self c.in_ok-push_any.ensures.tally h.3),
+      record_behind (g.S.Suspicion.facts c.args.suspicion.now) ys x c.loop-trace.position h.1 c.facts_in.result c.facts_in.ensures c.loop-trace.tally c.push_any.new.self c.in_ok-push_any.ensures.tally h.3,
       grind arith,
     )
 

@@ -1,13 +1,11 @@
-use Rattle.std.proofs.Common.{◌≡◌, ◌+◌, ◌∙◌, ◌++◌, List, [], ◌∷◌, Option, Some, None, sym, ap, subst, refl, arith, length, map, append_assoc, length-append, ℕ}
+use Rattle.std.proofs.Common.{◌≡◌, ◌+◌, ◌∙◌, ◌++◌, List, [], ◌∷◌, Option, Some, None, sym, ap, refl, arith, length, map, append_assoc, length-append, ℕ}
 use Rattle.std.specs.Prelude.{option_to_list}
 use Rattle.std.specs.List.{filter_map, cons_option}
-use Rattle.std.proofs.lemmas.List.{length-map, map-append}
+use Rattle.std.proofs.lemmas.List.{map-append}
 use Rattle.std.proofs.lemmas.List.Elements.{filter_map-append}
 use Rattle.trace_record.specs.Facts.{facts_of}
 use Rattle.trace_record.specs.declared.record.Record.{Record}
-use Rattle.trace_groups.specs.Groups.{marks_of}
 use Rattle.trace_groups.specs.Loud.{amount_of}
-use Rattle.trace_groups.specs.OfTally.{IsTallyOf}
 use Rattle.trace_groups.specs.Suspects.{dead_facts}
 use Rattle.trace_groups.proofs.MarkLemmas.{record_behind}
 use Rattle.trace_groups.proofs.samples.dead_and_amounts.Goals as goal

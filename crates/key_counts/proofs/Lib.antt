@@ -2,6 +2,7 @@ pub mod KeyLemmas
 pub mod OneMoreLemmas
 pub mod PartLemmas
 pub mod ProductLemmas
+pub mod DivisorLemmas
 pub mod EachMoreLemmas
 pub mod RisingLemmas
 pub mod RunLemmas

@@ -1,3 +1,4 @@
+pub mod Divisors
 pub mod FractionLaws
 pub mod RatioOrder
 pub mod Coordinates

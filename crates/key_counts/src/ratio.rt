@@ -1,6 +1,7 @@
-ghost use Rattle.std.specs.Prelude.{◌≡◌, ◌<◌, ◌^◌, ◌*ℤ◌, pos, unsigned_abs};
+ghost use Rattle.std.specs.Prelude.{◌≡◌, ◌<◌, ◌≤◌, ◌+◌, ◌^◌, ◌*ℤ◌, pos, unsigned_abs};
 ghost use Rattle.std.specs.Int.{IsGcd};
 ghost use Rattle.key_counts.specs.FractionLaws.{IsGcd-prop, with_sign};
+ghost use Rattle.key_counts.specs.Divisors.{first_divisor_of};
 
 use std::cmp::Ordering;
 
@@ -99,6 +100,9 @@ impl Ratio {
     {
         let size = num.unsigned_abs();
         let divisor = greatest_common_divisor(size, den);
+        if divisor == 1 {
+            return Ratio { num, den };
+        }
         let least = size / u64::from(divisor);
         Ratio {
             num: with_sign_of(num, least),
@@ -107,8 +111,67 @@ impl Ratio {
     }
 }
 
-// Behind the first division all are numbers of 32 bits, which are divided in half the time.
+// Nearly all coordinates stand under a power of 10: then numbers are divided by constants alone.
+#[inline]
 fn greatest_common_divisor(a: u64, b: u32) -> u32
+    requires { 0 < b }
+    ensures { IsGcd a b result }
+{
+    match b {
+        1 => 1,
+        10 => divisor_with_10((a % 10) as u32),
+        100 => divisor_with_100((a % 100) as u32),
+        1000 => divisor_with_1000((a % 1000) as u32),
+        _ => divisor_by_remainders(a, b),
+    }
+}
+
+#[inline]
+fn divisor_with_10(rest: u32) -> u32
+    requires { rest < 10 }
+    ensures { IsGcd 10 rest result }
+{
+    first_divisor(rest, 2, 2, 2) * first_divisor(rest, 5, 5, 5)
+}
+
+#[inline]
+fn divisor_with_100(rest: u32) -> u32
+    requires { rest < 100 }
+    ensures { IsGcd 100 rest result }
+{
+    first_divisor(rest, 4, 4, 2) * first_divisor(rest, 25, 25, 5)
+}
+
+#[inline]
+fn divisor_with_1000(rest: u32) -> u32
+    requires { rest < 1000 }
+    ensures { IsGcd 1000 rest result }
+{
+    first_divisor(rest, 8, 4, 2) * first_divisor(rest, 125, 25, 5)
+}
+
+// The first of three numbers above 0 that divides the other, or 1.
+#[inline(always)]
+fn first_divisor(number: u32, first: u32, second: u32, third: u32) -> u32
+    requires first { 0 < first }
+    requires second { 0 < second }
+    requires third { 0 < third }
+    ensures divisor { result ≡ first_divisor_of number first second third }
+    ensures small { result ≤ first + second + third }
+{
+    if number % first == 0 {
+        first
+    } else if number % second == 0 {
+        second
+    } else if number % third == 0 {
+        third
+    } else {
+        1
+    }
+}
+
+// Behind the first division all are numbers of 32 bits, which are divided in half the time.
+fn divisor_by_remainders(a: u64, b: u32) -> u32
     requires { 0 < b }
     ensures { IsGcd a b result }
 {

@@ -16,6 +16,13 @@ stored num r f g a fn ea er ef fr =
 pub invariant_of-result : goal.invariant_of-result
 invariant_of-result c =
     let fn : SFits w64 c.args.num = search rules in
+    let size : c.unsigned_abs-size.result ≡ unsigned_abs c.args.num = c.unsigned_abs-size.ensures.value ∙ ap unsigned_abs (to_z-of_z w64 c.args.num fn) in
+    let is_gcd : IsGcd (unsigned_abs c.args.num) c.args.den c.greatest_common_divisor-divisor.result = subst (λ n. IsGcd n c.args.den c.greatest_common_divisor-divisor.result) size c.greatest_common_divisor-divisor.ensures in
+    record { positive = c.requires.den; lowest = rw (to_z-of_z w64 c.args.num fn) (subst (λ g. IsGcd (unsigned_abs c.args.num) c.args.den g) c.if-divisor-eq1.true is_gcd) }
+
+pub invariant_of-result-2 : goal.invariant_of-result-2
+invariant_of-result-2 c =
+    let fn : SFits w64 c.args.num = search rules in
     let fr : SFits w64 c.with_sign_of.result = search rules in
     let size : c.unsigned_abs-size.result ≡ unsigned_abs c.args.num = c.unsigned_abs-size.ensures.value ∙ ap unsigned_abs (to_z-of_z w64 c.args.num fn) in
     let is_gcd : IsGcd (unsigned_abs c.args.num) c.args.den c.greatest_common_divisor-divisor.result = subst (λ n. IsGcd n c.args.den c.greatest_common_divisor-divisor.result) size c.greatest_common_divisor-divisor.ensures in

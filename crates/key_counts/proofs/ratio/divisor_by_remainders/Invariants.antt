@@ -1,6 +1,6 @@
 use Rattle.std.proofs.Common.{ℕ}
 use Rattle.std.specs.Int.{IsGcd}
-use Rattle.key_counts.proofs.ratio.greatest_common_divisor.Given as goal
+use Rattle.key_counts.proofs.ratio.divisor_by_remainders.Given as goal
 
 abbrev pub invariant-loop-y : goal.invariant-loop-y
 invariant-loop-y l = (g : ℕ) → IsGcd l.x l.y g → IsGcd l.fn.a l.fn.b g

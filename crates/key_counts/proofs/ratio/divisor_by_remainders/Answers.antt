@@ -1,0 +1,13 @@
+use Rattle.std.proofs.Common.{arith, subst, ◌%◌, ℕ}
+use Rattle.std.specs.Int.{IsGcd}
+use Rattle.std.proofs.lemmas.Nat.Gcd.{IsGcd-from_zero, IsGcd-from_mod}
+use Rattle.key_counts.proofs.ratio.divisor_by_remainders.Goals as goal
+
+pub loop-y-init : goal.loop-y-init
+loop-y-init c g h = IsGcd-from_mod _ _ g (subst (λ (k : ℕ). IsGcd c.args.b (c.args.a % k) g) c.from.ensures h)
+
+pub loop-y-preserved : goal.loop-y-preserved
+loop-y-preserved c g h = c.loop-y.invariant g (IsGcd-from_mod _ _ g h)
+
+pub returns : goal.returns
+returns c = c.loop-y.invariant _ (IsGcd-from_zero _ _ (omega arith))

@@ -43,3 +43,11 @@ both_parts w a b c = simp append_assoc
 pub grid_parts : (a b c d e f g h i j k l : List ℕ)
     → (((((a ++ b) ++ (c ++ d)) ++ (e ++ f)) ++ (g ++ h)) ++ (i ++ j)) ++ (k ++ l) ≡ a ++ (b ++ (c ++ (d ++ (e ++ (f ++ (g ++ (h ++ (i ++ (j ++ (k ++ l))))))))))
 grid_parts a b c d e f g h i j k l = simp append_assoc
+
+-- a word and three texts, each behind a blank, and a fourth with what ends the line
+pub line_of_four : (w a b c d e : List ℕ) → (w ++ 32 ∷ (a ++ 32 ∷ (b ++ 32 ∷ c))) ++ 32 ∷ (d ++ e) ≡ (w ++ 32 ∷ (a ++ 32 ∷ (b ++ 32 ∷ (c ++ 32 ∷ d)))) ++ e
+line_of_four w a b c d e = simp append_assoc
+
+-- a word and three texts, each behind a blank, in front of another text
+pub line_of_three : (w a b c d : List ℕ) → w ++ 32 ∷ (a ++ 32 ∷ (b ++ 32 ∷ (c ++ d))) ≡ (w ++ 32 ∷ (a ++ 32 ∷ (b ++ 32 ∷ c))) ++ d
+line_of_three w a b c d = simp append_assoc

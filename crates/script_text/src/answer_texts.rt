@@ -5,7 +5,7 @@ ghost use Rattle.script_text.specs.Devices.{device_of};
 ghost use Rattle.script_text.specs.Printing.{Pushes};
 ghost use Rattle.script_text.specs.Texts.{with_line_end};
 
-use crate::list_texts::push_list;
+use crate::list_texts::{push_list, push_list_from_end};
 use crate::long_texts::{LongLine, push_long_list};
 use crate::out_buffer::OutBuffer;
 use crate::problem_texts::push_problems;
@@ -39,7 +39,7 @@ pub(crate) fn push_answer<W: Write>(
         Answer::Extremes(fields) => push_long_list(out, writer, b"extremes", fields.as_slice()),
         Answer::Table(table) => push_table(out, writer, table),
         Answer::Found(found) => push_list(out, writer, b"found", b"trace", found.as_slice()),
-        Answer::Grid(cells) => push_list(out, writer, b"cells", b"cell", cells.as_slice()),
+        Answer::Grid(cells) => push_list_from_end(out, writer, b"cells", b"cell", cells.as_slice()),
         Answer::Inlines(lines) => push_list(out, writer, b"inlines", b"inline", lines.as_slice()),
         Answer::Crosslines(lines) => {
             push_list(out, writer, b"crosslines", b"crossline", lines.as_slice())
@@ -51,7 +51,7 @@ pub(crate) fn push_answer<W: Write>(
             b"times",
             times.as_slice(),
         ),
-        Answer::Slice(rows) => push_list(out, writer, b"slice", b"row", rows.as_slice()),
+        Answer::Slice(rows) => push_list_from_end(out, writer, b"slice", b"row", rows.as_slice()),
         Answer::Faults(faults) => push_list(out, writer, b"faults", b"", faults.as_slice()),
         Answer::Problems(lines) => push_problems(out, writer, lines.as_slice()),
         Answer::Count(count) => out.push(writer, numbered_line(b"traces ", *count).as_slice()),

@@ -6,6 +6,7 @@ ghost use Rattle.script_text.specs.Texts.{counted_lines, list_lines, with_line_e
 
 use crate::out_buffer::OutBuffer;
 use crate::text_buffer::TextBuffer;
+use crate::text_from_end::TextFromEnd;
 use device_io::{Sink, WriteFault};
 use std::io::Write;
 
@@ -19,6 +20,18 @@ pub(crate) trait Listed {
         requires word { length word.now ≤ 20 }
         ensures text { line.new ≡ text word.now self.now }
         ensures short { length line.new ≤ 639 };
+}
+
+/// What has a line of numbers in a list of many, built from its end, behind a word that the list
+/// gives to each line.
+pub(crate) trait ListedFromEnd {
+    ghost text: { List ℕ → Self → List ℕ };
+
+    /// Writes the line in front of its end.
+    fn put_text(&self, line: &mut TextFromEnd, word: &[u8])
+        requires end { line.old ≡ codes "\n" }
+        requires word { length word.now ≤ 20 }
+        ensures { line.new ≡ with_line_end (text word.now self.now) };
 }
 
 /// Pushes the lines of a list. Takes no memory.
@@ -58,6 +71,32 @@ pub(crate) fn push_counted<W: Write, T: Listed>(
         line.clear();
         item.push_text(&mut line, word);
         line.push_byte(b'\n');
+        out.push(writer, line.as_slice())?;
+    }
+    Ok(())
+}
+
+/// Pushes the lines of a list, each built from its end. Takes no memory.
+pub(crate) fn push_list_from_end<W: Write, T: ListedFromEnd>(
+    out: &mut OutBuffer,
+    writer: &mut Sink<W>,
+    list: &[u8],
+    word: &[u8],
+    items: &[T],
+) -> Result<(), WriteFault>
+    requires list { length list.now ≤ 20 }
+    requires word { length word.now ≤ 20 }
+    ensures { Pushes (device_of W.contents writer.old) (device_of W.contents writer.new)
+        out.old out.new (list_lines list.now (map (T.text word.now) items.now)) result }
+{
+    let mut head = TextBuffer::new();
+    push_head(&mut head, list, items.len() as u64);
+    out.push(writer, head.as_slice())?;
+    let mut line = TextFromEnd::new();
+    for item in items {
+        line.clear();
+        line.put_byte(b'\n');
+        item.put_text(&mut line, word);
         out.push(writer, line.as_slice())?;
     }
     Ok(())

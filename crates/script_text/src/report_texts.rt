@@ -1,9 +1,10 @@
 // The lines that are printed for reports.
-ghost use Rattle.std.specs.Prelude.{◌≡◌, ◌≤◌, ◌+◌, ◌++◌, [], Some, codes, decimal, length};
+ghost use Rattle.std.specs.Prelude.{◌≡◌, ◌≤◌, ◌+◌, ◌∷◌, ◌++◌, [], Some, codes, decimal, length};
+ghost use Rattle.std.specs.Fmt.{signed_decimal};
 ghost use Rattle.script_text.specs.ReportTexts.{location_text, fraction_text, statistics_text, range_text, cell_text, numbered_text, fold_count_text, row_text, fault_text};
-ghost use Rattle.script_text.specs.Texts.{with_line_end};
+ghost use Rattle.script_text.specs.Texts.{with_blanks, with_line_end};
 
-use crate::list_texts::Listed;
+use crate::list_texts::{Listed, ListedFromEnd};
 use crate::text_buffer::TextBuffer;
 use crate::text_from_end::TextFromEnd;
 use bench_rules::{Location, Row};
@@ -96,20 +97,35 @@ pub(crate) fn range_line(range: Option<(Ratio, Ratio)>) -> TextBuffer
 }
 
 // A list of cells or rows may have a line for each trace: they are written with few steps.
-impl Listed for Cell {
+impl ListedFromEnd for Cell {
     ghost text = { cell_text };
 
-    fn push_text(&self, line: &mut TextBuffer, word: &[u8]) {
-        line.push(word);
-        let mut text = TextFromEnd::new();
-        text.put_number(i128::from(self.fold));
-        text.put_byte(b' ');
-        text.put_number(i128::from(self.crossline));
-        text.put_byte(b' ');
-        text.put_number(i128::from(self.inline));
-        text.put_byte(b' ');
-        line.push(text.as_slice());
+    fn put_text(&self, line: &mut TextFromEnd, word: &[u8]) {
+        put_at_cell(
+            line,
+            word,
+            self.inline,
+            self.crossline,
+            i128::from(self.fold),
+        );
     }
+}
+
+// Writes a word, an inline, a crossline and another number in front of what is there.
+#[inline(always)]
+fn put_at_cell(line: &mut TextFromEnd, word: &[u8], inline: i32, crossline: i32, number: i128)
+    requires room { length line.old ≤ 43 }
+    requires word { length word.now ≤ 20 }
+    ensures { line.new ≡ with_blanks (word.now ∷ signed_decimal inline
+        ∷ signed_decimal crossline ∷ signed_decimal number ∷ []) ++ line.old }
+{
+    line.put_number(number);
+    line.put_byte(b' ');
+    line.put_number(i128::from(crossline));
+    line.put_byte(b' ');
+    line.put_number(i128::from(inline));
+    line.put_byte(b' ');
+    line.put(word);
 }
 
 impl Listed for Line {
@@ -132,21 +148,19 @@ impl Listed for FoldCount {
     }
 }
 
-impl Listed for Row {
+impl ListedFromEnd for Row {
     ghost text = { row_text };
 
-    fn push_text(&self, line: &mut TextBuffer, word: &[u8]) {
-        line.push(word);
-        let mut text = TextFromEnd::new();
-        text.put_number(self.value);
-        text.put_byte(b' ');
-        text.put_number(i128::from(self.position));
-        text.put_byte(b' ');
-        text.put_number(i128::from(self.crossline));
-        text.put_byte(b' ');
-        text.put_number(i128::from(self.inline));
-        text.put_byte(b' ');
-        line.push(text.as_slice());
+    fn put_text(&self, line: &mut TextFromEnd, word: &[u8]) {
+        line.put_number(self.value);
+        line.put_byte(b' ');
+        put_at_cell(
+            line,
+            word,
+            self.inline,
+            self.crossline,
+            i128::from(self.position),
+        );
     }
 }
 

@@ -98,8 +98,8 @@ impl TextFromEnd {
         self.put(buffer.format(number).as_bytes());
     }
 
-    // Writes the text in front of what is there.
-    fn put(&mut self, text: &[u8])
+    /// Writes the text in front of what is there.
+    pub(crate) fn put(&mut self, text: &[u8])
         requires { length self.old + length text.now ≤ 192 }
         ensures { self.new ≡ text.now ++ self.old }
     {

@@ -1,0 +1,11 @@
+use Rattle.std.proofs.Common.{map, drop}
+use Rattle.script_text.specs.Devices.{device_of}
+use Rattle.script_text.specs.Texts.{with_line_ends}
+use Rattle.script_text.proofs.OutLemmas.{Left}
+use Rattle.script_text.proofs.list_texts.push_list_from_end.Given as goal
+
+-- since the head was pushed the lines of the items before this one were
+abbrev pub invariant-loop-item : goal.invariant-loop-item
+invariant-loop-item g l =
+    Left (device_of g.W.Write.contents l.initial.writer) (device_of g.W.Write.contents l.writer) l.initial.out l.out
+    (with_line_ends (map (g.T.ListedFromEnd.text l.word) (drop l.item-index l.items))) (with_line_ends (map (g.T.ListedFromEnd.text l.word) l.items))

@@ -5,7 +5,7 @@ use Rattle.std.specs.Io.KnownBytes.{Appends}
 use Rattle.frame_cut.specs.Volume.{bytes_of}
 use Rattle.safe_save.specs.Disk.{Disk}
 use Rattle.safe_save.specs.Saving.{Known, Stored, IsStored}
-use Rattle.script_text.specs.Devices.{Device}
+use Rattle.line_texts.specs.Devices.{Device}
 use Rattle.script_text.specs.declared.run_end.RunEnd.{RunEnd}
 use Rattle.script_text.specs.declared.run_end.RunEnd.TheVariants as ends
 use Rattle.script_run.specs.declared.options.Options.{Options}

@@ -4,7 +4,7 @@ use Rattle.frame_cut.specs.Volume.{bytes_of}
 use Rattle.bench_rules.specs.State.{State}
 use Rattle.safe_save.specs.Disk.{Disk}
 use Rattle.safe_save.specs.Saving.{Known, Stored, IsStored, IsNeverElse}
-use Rattle.script_text.specs.Devices.{Device}
+use Rattle.line_texts.specs.Devices.{Device}
 use Rattle.script_text.specs.declared.run_end.RunEnd.{RunEnd}
 use Rattle.script_run.specs.declared.options.Options.{Options}
 use Rattle.script_run.specs.Ends.{Devices, devices, Runs, RunsThrough}

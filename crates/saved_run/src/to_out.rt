@@ -3,7 +3,7 @@ ghost use Rattle.std.specs.Prelude.{◌≡◌, [], true, false, Some, length, Is
 ghost use Rattle.room.specs.Refusals.{Rises};
 ghost use Rattle.std.specs.Io.Buffered.{writer_contents};
 ghost use Rattle.safe_save.specs.Saving.{beside_bytes};
-ghost use Rattle.script_text.specs.Devices.{device_of};
+ghost use Rattle.line_texts.specs.Devices.{device_of};
 ghost use Rattle.script_run.specs.Ends.{devices};
 ghost use Rattle.script_run.specs.OnDisk.{unread, read_whole, RefusesPass};
 ghost use Rattle.run_ending.specs.declared.out_end.OutEnd.TheVariants.{Saved};

@@ -4,7 +4,8 @@ ghost use Rattle.script_text.specs.Held.{printed_of};
 
 use bench_rules::{AskFault, Refusal};
 use field_map::MapFault;
-use script_text::{Reply, SessionFault};
+use refusal_texts::SessionFault;
+use script_text::Reply;
 use script_words::LineFault;
 use std::fmt;
 use text_block::TextFault;

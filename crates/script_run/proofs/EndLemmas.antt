@@ -13,9 +13,9 @@ use Rattle.bench_laws.specs.EditLaws.{StepsStayCut}
 use Rattle.script_run.specs.declared.options.Options.{Options}
 use Rattle.script_text.specs.declared.run_end.RunEnd.{RunEnd}
 use Rattle.script_text.specs.declared.run_end.RunEnd.TheVariants as ends
-use Rattle.script_text.specs.declared.script_fault.ScriptFault.{ScriptFault}
-use Rattle.script_text.specs.RefusalTexts.{load_refusal_line, script_refusal_line}
-use Rattle.script_text.specs.Devices.{Device, Takes, TakesPart, count_in_64_bits}
+use Rattle.refusal_texts.specs.declared.script_fault.ScriptFault.{ScriptFault}
+use Rattle.refusal_texts.specs.RefusalTexts.{load_refusal_line, script_refusal_line}
+use Rattle.line_texts.specs.Devices.{Device, Takes, TakesPart, count_in_64_bits}
 use Rattle.script_run.specs.Loading.{Loads, ReadsScript}
 use Rattle.script_text.specs.Replies.{Printed}
 use Rattle.script_words.specs.Words.{script_lines}

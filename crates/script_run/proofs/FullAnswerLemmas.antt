@@ -23,7 +23,7 @@ use Rattle.script_words.specs.declared.command.Command.{Command}
 use Rattle.script_words.specs.declared.command.Command.TheVariants.{Apply, Ask}
 use Rattle.script_words.specs.declared.line_fault.LineFault.{LineFault}
 use Rattle.script_words.specs.declared.line_fault.LineFault.TheVariants.{Words, TooLarge, OutOfMemory}
-use Rattle.script_text.specs.declared.session_fault.SessionFault.TheVariants.{CutOff}
+use Rattle.refusal_texts.specs.declared.session_fault.SessionFault.TheVariants.{CutOff}
 use Rattle.script_text.specs.Replies.{Printed, fault_reply, session_reply, edit_reply}
 use Rattle.script_text.specs.Texts.{IsFullLines}
 use Rattle.script_text.proofs.PlainLemmas.{HasPlainNames, plain_name, plain_bound, plain_unbound, nothing_full, fault_full, session_full as session_text_full, edit_full, query_full, reply_full}

@@ -13,8 +13,8 @@ use Rattle.edit_pieces.specs.declared.repaired.Repaired.TheVariants.{NotBegun}
 use Rattle.script_run.specs.declared.options.Options.{Options}
 use Rattle.script_text.specs.declared.run_end.RunEnd.{RunEnd}
 use Rattle.script_text.specs.declared.run_end.RunEnd.TheVariants as ends
-use Rattle.script_text.specs.declared.script_fault.ScriptFault.{ScriptFault}
-use Rattle.script_text.specs.RefusalTexts.{load_refusal_line, script_refusal_line}
+use Rattle.refusal_texts.specs.declared.script_fault.ScriptFault.{ScriptFault}
+use Rattle.refusal_texts.specs.RefusalTexts.{load_refusal_line, script_refusal_line}
 use Rattle.script_run.specs.Ends.{Devices, RefusesLoad, RefusesScript, IsTold}
 use Rattle.script_run.specs.InPlace.{IsRepair, RunsInPlace}
 

@@ -10,9 +10,9 @@ use Rattle.room.specs.Refusals.{WasRefused}
 use Rattle.bench_rules.specs.State.{State}
 use Rattle.script_words.specs.Words.{is_line_feed, parts_by_line_feed, script_lines, without_return}
 use Rattle.script_text.specs.Replies.{Printed}
-use Rattle.script_text.specs.Devices.{Device, Takes, TakesPart, count_in_64_bits}
+use Rattle.line_texts.specs.Devices.{Device, Takes, TakesPart, count_in_64_bits}
 use Rattle.script_run.specs.Runs.{LineStep, LineSteps, StepsBy, printed_text, refusals, StopsAt, BreaksOff}
-use Rattle.script_text.proofs.OutLemmas.{takes_more, takes_part_more}
+use Rattle.line_texts.proofs.OutLemmas.{takes_more, takes_part_more}
 use Rattle.script_run.proofs.WantLemmas.{refused_within, line_in, lines_in}
 
 -- ---- a script has no more lines than bytes

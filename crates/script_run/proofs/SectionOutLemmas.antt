@@ -17,12 +17,12 @@ use Rattle.bench_rules.specs.FloatStatistics.{float_format}
 use Rattle.bench_rules.specs.ReadFaults.{IsReadFault}
 use Rattle.bench_rules.specs.Sections.{rows_of, samples_asked}
 use Rattle.bench_rules.specs.State.{State}
-use Rattle.script_text.specs.Devices.{count_in_64_bits, Device, Takes, TakesPart}
-use Rattle.script_text.specs.Printing.{nothing_out, BreaksOut, GoesOut, Outgoing}
-use Rattle.script_text.specs.RefusalTexts.{ask_fault_text, refused_line}
+use Rattle.line_texts.specs.Devices.{count_in_64_bits, Device, Takes, TakesPart}
+use Rattle.line_texts.specs.Printing.{nothing_out, BreaksOut, GoesOut, Outgoing}
+use Rattle.refusal_texts.specs.RefusalTexts.{ask_fault_text, refused_line}
 use Rattle.script_text.specs.Replies.{Printed}
 use Rattle.script_text.specs.SectionTexts.{section_end, section_head, AreRowTexts}
-use Rattle.script_text.proofs.OutLemmas.{breaks_first, told_first, told_whole}
+use Rattle.line_texts.proofs.OutLemmas.{breaks_first, told_first, told_whole}
 use Rattle.script_text.proofs.SectionLemmas.{breaks_both, goes_both, some_lines}
 use Rattle.script_run.proofs.TellLemmas.{told_at_last, told_behind}
 use Rattle.script_run.specs.Sections.{AreLinesOf, AreRowsOut, IsLineOf, IsRowOut, IsSectionPrinted, IsUntold}

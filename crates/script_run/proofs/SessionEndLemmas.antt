@@ -5,11 +5,11 @@ use Rattle.safe_save.specs.Places.{IsEmpty, Holds as StandsWhere}
 use Rattle.frame_cut.specs.declared.load_fault.LoadFault.{LoadFault}
 use Rattle.bench_rules.specs.State.{State}
 use Rattle.bench_laws.specs.EditLaws.{StepsStayCut}
-use Rattle.script_text.specs.declared.script_fault.ScriptFault.{ScriptFault}
-use Rattle.script_text.specs.Devices.{Device, Takes, TakesPart, count_in_64_bits}
-use Rattle.script_text.specs.RefusalTexts.{load_refusal_line, script_refusal_line}
+use Rattle.refusal_texts.specs.declared.script_fault.ScriptFault.{ScriptFault}
+use Rattle.line_texts.specs.Devices.{Device, Takes, TakesPart, count_in_64_bits}
+use Rattle.refusal_texts.specs.RefusalTexts.{load_refusal_line, script_refusal_line}
 use Rattle.script_text.specs.Replies.{Printed}
-use Rattle.script_text.proofs.OutLemmas.{takes_more, takes_part_more}
+use Rattle.line_texts.proofs.OutLemmas.{takes_more, takes_part_more}
 use Rattle.script_run.specs.declared.options.Options.{Options}
 use Rattle.script_text.specs.declared.run_end.RunEnd.{RunEnd}
 use Rattle.script_text.specs.declared.run_end.RunEnd.TheVariants as ends

@@ -3,12 +3,12 @@ use Rattle.std.proofs.Common.{◌≡◌, ℕ, ◌+◌, List, [], ◌∷◌, ◌+
 use Rattle.std.specs.Prelude.{IsTrue}
 use Rattle.std.specs.Io.KnownBytes.{Appends, IsAtEnd}
 use Rattle.std.proofs.lemmas.List.{take_at}
-use Rattle.script_text.specs.declared.script_fault.ScriptFault.{ScriptFault}
+use Rattle.refusal_texts.specs.declared.script_fault.ScriptFault.{ScriptFault}
 use Rattle.script_run.specs.declared.session_lines.SessionLines.TheVariants.{Script}
 use Rattle.room.specs.Refusals.{WasRefused}
 use Rattle.script_text.specs.Replies.{Printed}
-use Rattle.script_text.specs.Devices.{Device, Takes, TakesPart, count_in_64_bits}
-use Rattle.script_text.proofs.OutLemmas.{takes_more, takes_part_more}
+use Rattle.line_texts.specs.Devices.{Device, Takes, TakesPart, count_in_64_bits}
+use Rattle.line_texts.proofs.OutLemmas.{takes_more, takes_part_more}
 use Rattle.script_run.specs.Runs.{printed_text, refusals}
 use Rattle.script_run.specs.Input.{SessionLine, line_of, session_lines, any_cut_off, TakesLine, TakesLines, IsEndless, HasTooMany}
 use Rattle.script_run.specs.Sessions.{Standing, SessionStep, SessionSteps, FirstLines, AllLines, IsBroken}

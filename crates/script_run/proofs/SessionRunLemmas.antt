@@ -2,8 +2,8 @@
 use Rattle.std.specs.Prelude.{⊤}
 use Rattle.std.proofs.Common.{◌≡◌, ◌≤◌, ℕ, List, [], ◌∷◌, length, Bool, true, false, Result, Ok, Err, refl, ap, ap₂, ◌∙◌, inl, inr, arith}
 use Rattle.script_words.specs.declared.line_fault.LineFault.TheVariants.{OutOfMemory}
-use Rattle.script_text.specs.declared.session_fault.SessionFault.{SessionFault}
-use Rattle.script_text.specs.declared.session_fault.SessionFault.TheVariants.{SaveFailed}
+use Rattle.refusal_texts.specs.declared.session_fault.SessionFault.{SessionFault}
+use Rattle.refusal_texts.specs.declared.session_fault.SessionFault.TheVariants.{SaveFailed}
 use Rattle.script_words.specs.declared.session_words.SessionWord.{SessionWord}
 use Rattle.script_words.specs.declared.session_words.SessionWord.TheVariants.{Save, SaveWithMore, Other}
 use Rattle.script_words.specs.SessionWords.{session_word_of}

@@ -5,7 +5,7 @@ use Rattle.script_words.specs.declared.session_words.SessionWord.{SessionWord}
 use Rattle.script_words.specs.declared.session_words.SessionWord.TheVariants.{Save, SaveWithMore, Other}
 use Rattle.script_words.specs.SessionWords.{session_word_of}
 use Rattle.script_words.specs.Words.{without_return}
-use Rattle.script_text.specs.Devices.{Device}
+use Rattle.line_texts.specs.Devices.{Device}
 use Rattle.script_text.specs.Replies.{Printed}
 use Rattle.script_run.specs.declared.session_lines.SessionLines.{SessionLines}
 use Rattle.script_run.specs.declared.session_lines.SessionLines.TheVariants.{Whole, Stopped, Answers, Script}

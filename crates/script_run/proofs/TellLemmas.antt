@@ -1,9 +1,9 @@
 -- How the text of a reply is written, with more behind it.
 use Rattle.std.proofs.Common.{◌≡◌, ℕ, List, [], ◌++◌, ap, append-nil}
-use Rattle.script_text.specs.Devices.{Device, TakesPart, count_in_64_bits}
-use Rattle.script_text.specs.Printing.{Outgoing, nothing_out, GoesOut, BreaksOut}
+use Rattle.line_texts.specs.Devices.{Device, TakesPart, count_in_64_bits}
+use Rattle.line_texts.specs.Printing.{Outgoing, nothing_out, GoesOut, BreaksOut}
 use Rattle.script_text.specs.Replies.{Printed}
-use Rattle.script_text.proofs.OutLemmas.{Left, goes_on, breaks_on, all_out, told_first, told_last}
+use Rattle.line_texts.proofs.OutLemmas.{Left, goes_on, breaks_on, all_out, told_first, told_last}
 use Rattle.script_run.specs.Telling.{followed_by}
 
 -- nothing behind it

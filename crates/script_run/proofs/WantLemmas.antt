@@ -10,7 +10,7 @@ use Rattle.bench_rules.specs.State.{State}
 use Rattle.script_words.specs.declared.command.Command.{Command}
 use Rattle.script_words.specs.declared.command.Command.TheVariants.{Apply, Ask}
 use Rattle.script_words.specs.declared.line_fault.LineFault.{LineFault}
-use Rattle.script_text.specs.Devices.{Device}
+use Rattle.line_texts.specs.Devices.{Device}
 use Rattle.script_text.specs.Replies.{Printed}
 use Rattle.script_run.specs.declared.lines_end.LinesEnd.{LinesEnd}
 use Rattle.script_run.specs.declared.lines_end.LinesEnd.TheVariants.{Whole, Stopped, Answers}

@@ -6,7 +6,7 @@ use Rattle.journal_codes.specs.Codes.{Span}
 use Rattle.journal_save.specs.Disk.{Disk, Over, laid_all, IsDurable}
 use Rattle.journal_save.specs.Saving.{AsItWasOr, IsEither, IsRefused, IsSettling, LeavesOnly, StaysSettled}
 use Rattle.journal_save.specs.declared.errors.SaveError.{SaveError}
-use Rattle.script_text.specs.Devices.{Device}
+use Rattle.line_texts.specs.Devices.{Device}
 use Rattle.script_text.specs.declared.run_end.RunEnd.{RunEnd}
 use Rattle.script_text.specs.declared.run_end.RunEnd.TheVariants as ends
 use Rattle.script_run.specs.declared.options.Options.{Options}

@@ -3,7 +3,7 @@ use Rattle.std.specs.Prelude.{◌≡◌, ◌⊎◌, ℕ, ◌<◌, ◌≤◌, ◌
 use Rattle.std.specs.List.{list_any, before_first, after_first}
 use Rattle.std.specs.Io.KnownBytes.{prepend_known, Consumes, IsAtEnd}
 use Rattle.room.specs.Refusals.{WasRefused}
-use Rattle.script_text.specs.Devices.{count_in_64_bits}
+use Rattle.line_texts.specs.Devices.{count_in_64_bits}
 use Rattle.script_words.specs.Words.{is_line_feed}
 use Rattle.script_run.specs.declared.line_read.LineRead.{LineRead}
 use Rattle.script_run.specs.declared.line_read.LineRead.TheVariants.{Text, TooLarge, Lost}

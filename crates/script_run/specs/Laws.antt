@@ -14,7 +14,7 @@ use Rattle.script_words.specs.declared.command.Command.{Command}
 use Rattle.script_words.specs.declared.command.Command.TheVariants.{Apply, Ask}
 use Rattle.script_words.specs.declared.line_fault.LineFault.{LineFault}
 use Rattle.script_words.specs.declared.line_fault.LineFault.TheVariants.{OutOfMemory}
-use Rattle.script_text.specs.declared.session_fault.SessionFault.TheVariants.{SaveFailed}
+use Rattle.refusal_texts.specs.declared.session_fault.SessionFault.TheVariants.{SaveFailed}
 use Rattle.script_text.specs.Replies.{Printed, edit_reply, fault_reply, session_reply}
 use Rattle.script_words.specs.Commands.{IsParsed}
 use Rattle.script_words.specs.Words.{without_return}

@@ -3,7 +3,7 @@ use Rattle.std.specs.Prelude.{◌≡◌, ℕ, Bool, IsTrue, List}
 use Rattle.bench_rules.specs.State.{State}
 use Rattle.script_run.specs.declared.lines_end.LinesEnd.{LinesEnd}
 use Rattle.script_run.specs.declared.lines_end.LinesEnd.TheVariants.{Whole, Stopped, Answers}
-use Rattle.script_text.specs.Devices.{Device, Takes, TakesPart, count_in_64_bits}
+use Rattle.line_texts.specs.Devices.{Device, Takes, TakesPart, count_in_64_bits}
 use Rattle.script_run.specs.Runs.{RunsWhole, StopsAt, BreaksOff}
 
 -- the lines are run from one state to another, and the writer of the answers takes what they print, E11 for this cause alone

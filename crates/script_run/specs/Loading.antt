@@ -11,9 +11,9 @@ use Rattle.frame_cut.specs.Cuts.{IsCut}
 use Rattle.frame_cut.specs.Volume.{bytes_of}
 use Rattle.volume_loading.specs.Loading.{IsLoadFault, FailuresAfterRefusal, TakesWithin}
 use Rattle.bench_rules.specs.State.{State}
-use Rattle.script_text.specs.declared.script_fault.ScriptFault.{ScriptFault}
-use Rattle.script_text.specs.declared.script_fault.ScriptFault.TheVariants.{ReadFailed, TooLarge, OutOfMemory}
-use Rattle.script_text.specs.Devices.{Device}
+use Rattle.refusal_texts.specs.declared.script_fault.ScriptFault.{ScriptFault}
+use Rattle.refusal_texts.specs.declared.script_fault.ScriptFault.TheVariants.{ReadFailed, TooLarge, OutOfMemory}
+use Rattle.line_texts.specs.Devices.{Device}
 
 -- the reader gives a whole file, which is cut under the reading and limits, with the six geometry names bound; its bytes are then in memory,
 -- or stay on disk

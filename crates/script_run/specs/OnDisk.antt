@@ -2,8 +2,8 @@
 use Rattle.std.specs.Prelude.{◌≡◌, ℕ, List, [], Some}
 use Rattle.edit_overlay.specs.RefusedPass.{RefusedPass}
 use Rattle.volume_loading.specs.PassedFile.{IsPassFault}
-use Rattle.script_text.specs.Devices.{Device}
-use Rattle.script_text.specs.RefusalTexts.{load_refusal_line}
+use Rattle.line_texts.specs.Devices.{Device}
+use Rattle.refusal_texts.specs.RefusalTexts.{load_refusal_line}
 use Rattle.script_run.specs.declared.options.Options.{Options}
 use Rattle.script_text.specs.declared.run_end.RunEnd.{RunEnd}
 use Rattle.script_text.specs.declared.run_end.RunEnd.TheVariants as ends

@@ -8,8 +8,8 @@ use Rattle.edit_pieces.specs.declared.attempt.Attempt.{Attempt}
 use Rattle.edit_pieces.specs.declared.attempt.Attempt.TheVariants.{Stopped, NoMemory, Ended}
 use Rattle.edit_pieces.specs.declared.repaired.Repaired.{Repaired}
 use Rattle.edit_pieces.specs.declared.repaired.Repaired.TheVariants.{NotBegun, Saved, Unfit, Unsettled, Failed}
-use Rattle.script_text.specs.declared.session_fault.SessionFault.{SessionFault}
-use Rattle.script_text.specs.declared.session_fault.SessionFault.TheVariants.{NoOut, SaveFailed}
+use Rattle.refusal_texts.specs.declared.session_fault.SessionFault.{SessionFault}
+use Rattle.refusal_texts.specs.declared.session_fault.SessionFault.TheVariants.{NoOut, SaveFailed}
 use Rattle.script_run.specs.InPlace.{Repairs}
 
 -- OUT, of which it may be known what stands there; or FILE itself, which has the bytes that were loaded but where earlier repairs wrote, whose

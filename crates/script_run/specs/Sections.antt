@@ -11,9 +11,9 @@ use Rattle.bench_rules.specs.FloatStatistics.{float_format}
 use Rattle.bench_rules.specs.ReadFaults.{IsReadFault}
 use Rattle.bench_rules.specs.Sections.{rows_of, samples_asked}
 use Rattle.bench_rules.specs.State.{State}
-use Rattle.script_text.specs.Devices.{Device}
-use Rattle.script_text.specs.Printing.{BreaksOut, GoesOut, Outgoing}
-use Rattle.script_text.specs.RefusalTexts.{ask_fault_text, refused_line}
+use Rattle.line_texts.specs.Devices.{Device}
+use Rattle.line_texts.specs.Printing.{BreaksOut, GoesOut, Outgoing}
+use Rattle.refusal_texts.specs.RefusalTexts.{ask_fault_text, refused_line}
 use Rattle.script_text.specs.Replies.{Printed}
 use Rattle.script_text.specs.SectionTexts.{section_head, AreRowTexts, IsRowText}
 

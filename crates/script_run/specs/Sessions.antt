@@ -8,15 +8,15 @@ use Rattle.frame_cut.specs.Volume.{bytes_of}
 use Rattle.bench_rules.specs.State.{State}
 use Rattle.device_io.specs.Failures.{one_more}
 use Rattle.script_words.specs.declared.line_fault.LineFault.TheVariants.{Words, TooLarge, OutOfMemory}
-use Rattle.script_text.specs.declared.session_fault.SessionFault.{SessionFault}
-use Rattle.script_text.specs.declared.session_fault.SessionFault.TheVariants.{CutOff}
+use Rattle.refusal_texts.specs.declared.session_fault.SessionFault.{SessionFault}
+use Rattle.refusal_texts.specs.declared.session_fault.SessionFault.TheVariants.{CutOff}
 use Rattle.script_words.specs.declared.session_words.SessionWord.{SessionWord}
 use Rattle.script_words.specs.declared.session_words.SessionWord.TheVariants.{Save, SaveWithMore, Other}
 use Rattle.script_words.specs.SessionWords.{session_word_of}
-use Rattle.script_text.specs.declared.script_fault.ScriptFault.{ScriptFault}
-use Rattle.script_text.specs.declared.script_fault.ScriptFault.TheVariants as script_faults
-use Rattle.script_text.specs.Devices.{Device, Takes, TakesPart, count_in_64_bits}
-use Rattle.script_text.specs.RefusalTexts.{load_refusal_line, script_refusal_line}
+use Rattle.refusal_texts.specs.declared.script_fault.ScriptFault.{ScriptFault}
+use Rattle.refusal_texts.specs.declared.script_fault.ScriptFault.TheVariants as script_faults
+use Rattle.line_texts.specs.Devices.{Device, Takes, TakesPart, count_in_64_bits}
+use Rattle.refusal_texts.specs.RefusalTexts.{load_refusal_line, script_refusal_line}
 use Rattle.script_text.specs.Replies.{Printed, fault_reply, session_reply}
 use Rattle.script_text.specs.Texts.{IsFullLines}
 use Rattle.script_words.specs.Words.{without_return}

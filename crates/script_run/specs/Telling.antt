@@ -1,7 +1,7 @@
 -- How the text of a reply is written.
 use Rattle.std.specs.Prelude.{◌≡◌, ℕ, List, ◌++◌, length, Result, MatchResult}
 use Rattle.device_io.specs.declared.write_fault.WriteFault.{WriteFault}
-use Rattle.script_text.specs.Devices.{Device, Takes, TakesPart, count_in_64_bits}
+use Rattle.line_texts.specs.Devices.{Device, Takes, TakesPart, count_in_64_bits}
 use Rattle.script_text.specs.Replies.{Printed}
 use Rattle.script_run.specs.declared.told.Told.{Told}
 

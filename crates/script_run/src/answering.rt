@@ -2,7 +2,7 @@
 ghost use Rattle.std.specs.Prelude.{◌≡◌, ◌≤◌, ℕ, List, IsTrue, true, false};
 ghost use Rattle.room.specs.Refusals.{WasRefused};
 ghost use Rattle.live_volume.specs.Held.{IsReadAs};
-ghost use Rattle.script_text.specs.Devices.{device_of};
+ghost use Rattle.line_texts.specs.Devices.{device_of};
 ghost use Rattle.script_text.specs.Replies.{Printed};
 ghost use Rattle.script_words.specs.SessionWords.{session_word_of};
 ghost use Rattle.script_run.specs.Input.{Holds, Held, IsLostWithCause, line_of};
@@ -23,8 +23,10 @@ use crate::session_lines::SessionLines;
 use crate::told::{Told, write_reply};
 use bench_core::Bench;
 use device_io::{Sink, Source, WriteFault};
+use line_texts::OutBuffer;
+use refusal_texts::{ScriptFault, SessionFault};
 use room::Room;
-use script_text::{OutBuffer, Reply, ScriptFault, SessionFault};
+use script_text::Reply;
 use script_words::{LineFault, SessionWord, session_word, strip_return};
 use std::io::{Read, Write};
 

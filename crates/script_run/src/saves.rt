@@ -5,9 +5,9 @@ ghost use Rattle.script_run.specs.Places.{Place, Elsewhere, Follows, IsSaved};
 
 use crate::saving::save_now;
 use bench_core::Bench;
+use refusal_texts::SessionFault;
 use room::Room;
 use safe_save::SavePlace;
-use script_text::SessionFault;
 
 /// Where the saves of a session go, one after another: OUT, or FILE itself.
 pub trait Saves {

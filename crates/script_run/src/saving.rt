@@ -7,9 +7,9 @@ ghost use Rattle.script_run.specs.Places.{SavesElsewhere};
 use bench_core::Bench;
 use bench_rules::{Answer, Query};
 use device_io::Sink;
+use refusal_texts::SessionFault;
 use room::Room;
 use safe_save::{Ended, NotBegun, SavePlace};
-use script_text::SessionFault;
 use std::io::Write;
 
 /// Saves what is held now to OUT: how many bytes, or S07 or S08. Takes no memory but what the place

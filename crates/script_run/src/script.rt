@@ -1,12 +1,12 @@
 // Reads a whole script.
 ghost use Rattle.std.specs.Prelude.{IfErr, IfOk, IsErrOf};
 ghost use Rattle.room.specs.Refusals.{Rises};
-ghost use Rattle.script_text.specs.Devices.{device_of};
+ghost use Rattle.line_texts.specs.Devices.{device_of};
 ghost use Rattle.script_run.specs.Loading.{ReadsScript, IsScriptRefused};
 
 use device_io::{ReadFault, Source};
+use refusal_texts::ScriptFault;
 use room::Room;
-use script_text::ScriptFault;
 use std::io::Read;
 
 // The most bytes that a script may have.

@@ -1,6 +1,6 @@
 // Writes samples of many traces, each trace while it is looked at.
 ghost use Rattle.std.specs.Prelude.{◌≡◌, ◌<◌, ◌^◌, IsTrue};
-ghost use Rattle.script_text.specs.Devices.{device_of};
+ghost use Rattle.line_texts.specs.Devices.{device_of};
 ghost use Rattle.script_text.specs.Replies.{Printed};
 ghost use Rattle.bench_rules.specs.Conditions.{AreRising};
 ghost use Rattle.frame_cut.specs.Traces.{count_of};
@@ -12,8 +12,9 @@ use bench_core::Bench;
 use bench_rules::{AskFault, SampleRange, Section};
 use device_io::{Sink, WriteFault};
 use float_codes::FloatFormat;
+use line_texts::OutBuffer;
 use sample_answers::AskedSamples;
-use script_text::{OutBuffer, push_section_head, push_section_row, section_end};
+use script_text::{push_section_head, push_section_row, section_end};
 use std::io::Write;
 
 /// Writes the line that a section begins with, a line for each of its traces, and this behind them.

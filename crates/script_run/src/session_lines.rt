@@ -1,4 +1,4 @@
-use script_text::ScriptFault;
+use refusal_texts::ScriptFault;
 
 /// How the lines of a session ended.
 #[derive(Clone, Copy, Debug, PartialEq, Eq)]

@@ -15,8 +15,8 @@ use bench_core::Bench;
 use edit_pieces::{Attempt, FurtherEdits, Repaired, VolumeEdits, Watcher, are_within, heads_of};
 use journal_codes::{Head, PIECE_ROOM};
 use journal_save::{Disk, SaveError};
+use refusal_texts::SessionFault;
 use room::Room;
-use script_text::SessionFault;
 use std::alloc::{AllocError, Global};
 
 /// FILE itself, which each save of a session repairs: only the bytes that differ from those that it

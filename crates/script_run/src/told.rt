@@ -1,7 +1,7 @@
 // Writes the reply to a line.
 ghost use Rattle.std.specs.Prelude.{◌≡◌, IsTrue};
 ghost use Rattle.live_volume.specs.Held.{IsReadAs};
-ghost use Rattle.script_text.specs.Devices.{device_of};
+ghost use Rattle.line_texts.specs.Devices.{device_of};
 ghost use Rattle.script_text.specs.Held.{printed_of};
 ghost use Rattle.script_text.specs.Replies.{Printed};
 ghost use Rattle.script_run.specs.Runs.{HasTraces, Prints};
@@ -11,7 +11,8 @@ use crate::sections::write_section;
 use bench_core::Bench;
 use bench_rules::AskFault;
 use device_io::{Sink, WriteFault};
-use script_text::{OutBuffer, Reply, is_refusal, push_reply};
+use line_texts::OutBuffer;
+use script_text::{Reply, is_refusal, push_reply};
 use std::io::Write;
 
 /// What was written for a line.

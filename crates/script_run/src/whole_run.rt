@@ -3,9 +3,9 @@ ghost use Rattle.std.specs.Prelude.{◌≡◌, ◌≤◌, ℕ, length, true, fal
 ghost use Rattle.room.specs.Refusals.{Rises};
 ghost use Rattle.live_volume.specs.Held.{IsReadAs};
 ghost use Rattle.frame_cut.specs.Volume.{bytes_of};
-ghost use Rattle.script_text.specs.RefusalTexts.{load_refusal_line};
+ghost use Rattle.refusal_texts.specs.RefusalTexts.{load_refusal_line};
 ghost use Rattle.script_text.specs.declared.run_end.RunEnd.TheVariants as ends;
-ghost use Rattle.script_text.specs.Devices.{Device, device_of, Takes};
+ghost use Rattle.line_texts.specs.Devices.{Device, device_of, Takes};
 ghost use Rattle.script_run.specs.Loading.{Loads, IsLoadRefused};
 ghost use Rattle.script_run.specs.Ends.{devices, IsTold, Runs, SavesPart};
 
@@ -18,9 +18,11 @@ use bench_laws::steps_stay_cut;
 use device_io::{Sink, Source};
 use edit_overlay::SaveFault;
 use frame_cut::LoadFault;
+use line_texts::{TextBuffer, write_text};
+use refusal_texts::{load_fault_line, script_fault_line};
 use room::Room;
 use script_hints::Notes;
-use script_text::{RunEnd, TextBuffer, load_fault_line, script_fault_line, write_text};
+use script_text::RunEnd;
 use std::io::{Read, Write};
 
 /// Runs a script over a volume: loads the volume, reads the script whole, runs its lines in order,

@@ -2,7 +2,7 @@
 ghost use Rattle.std.specs.Prelude.{◌≡◌, ◌≤◌, ◌&&◌, not, false, IsTrue, ℕ, List};
 ghost use Rattle.frame_cut.specs.Volume.{bytes_of};
 ghost use Rattle.live_volume.specs.Held.{IsReadAs};
-ghost use Rattle.script_text.specs.Devices.{Device, device_of};
+ghost use Rattle.line_texts.specs.Devices.{Device, device_of};
 ghost use Rattle.script_run.specs.Loading.{Loads};
 ghost use Rattle.script_run.specs.Sessions.{session_devices, Session};
 
@@ -14,8 +14,9 @@ use crate::whole_run::{load, tell};
 use bench_core::Bench;
 use bench_laws::steps_stay_cut;
 use device_io::{Sink, Source};
+use refusal_texts::{load_fault_line, script_fault_line};
 use room::Room;
-use script_text::{RunEnd, load_fault_line, script_fault_line};
+use script_text::RunEnd;
 use std::io::{Read, Write};
 
 /// A session over a volume: loads the volume, and answers the lines of `script` one by one. A line

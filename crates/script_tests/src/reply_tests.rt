@@ -1,7 +1,8 @@
 // The least number that there may be, which no file has, is printed whole.
 use bench_rules::{Answer, Table};
 use device_io::Sink;
-use script_text::{OutBuffer, Reply, push_reply};
+use line_texts::OutBuffer;
+use script_text::{Reply, push_reply};
 use std::alloc::Global;
 use std::test::Fail;
 

@@ -1,10 +1,10 @@
 // Sessions whose lines cannot be read on, and whose saves fail.
 use crate::tests::{Told, Wanted, is_told, options, sample_file};
 use device_io::{Sink, Source, StepReader};
+use refusal_texts::ScriptFault;
 use room::Room;
 use safe_save::MemoryPlace;
 use script_run::{Options, Outside, RunEnd, session};
-use script_text::ScriptFault;
 use std::alloc::Global;
 use std::test::Fail;
 

@@ -2,10 +2,10 @@
 use device_io::{Sink, Source, StepReader, StepWriter};
 use edit_overlay::SaveFault;
 use frame_cut::{Limits, LoadFault, Reading};
+use refusal_texts::ScriptFault;
 use room::Room;
 use script_hints::Notes;
 use script_run::{Options, RunEnd, run};
-use script_text::ScriptFault;
 use std::alloc::Global;
 use std::test::Fail;
 

@@ -29,7 +29,8 @@ use Rattle.bench_rules.specs.declared.trace_statistics.FloatTraceStatistics.{Flo
 use Rattle.bench_rules.specs.declared.trace_statistics.TraceStatistics.{TraceStatistics}
 use Rattle.bench_rules.specs.declared.location.Location.{Location}
 use Rattle.bench_rules.specs.declared.answer.Answer.TheVariants as answers
-use Rattle.script_text.specs.Texts.{with_blanks, list_lines, place_text, extension_text, sign_letter, is_plain, is_full_line, IsFullLines}
+use Rattle.line_texts.specs.Lines.{with_blanks, list_lines}
+use Rattle.script_text.specs.Texts.{place_text, extension_text, sign_letter, is_plain, is_full_line, IsFullLines}
 use Rattle.script_text.specs.ReportTexts.{fraction_text, location_text, statistics_text, range_text, cell_text, numbered_text, fold_count_text, row_text, of_trace_text, fault_text, counted_statistics_text, trace_statistics_text}
 use Rattle.script_text.specs.HeaderTexts.{table_row_text, found_text, number_text, four_numbers, extremes_text}
 use Rattle.script_text.specs.AnswerTexts.{order_text, yes_or_no, info_text, code_text, stanza_text, field_text, shown_text, ranks_text, tail_text, trace_ranks_text}

@@ -32,7 +32,8 @@ use Rattle.script_text.proofs.AnswerLineLemmas.{a_list}
 use Rattle.script_text.specs.FloatTexts.{float_name, float_problem_text, float_problems_text, float_row_text, float_run_text, counted_stat_text, shown_trace_text, stat_text, totals_text, worded_problem_text}
 use Rattle.script_text.specs.ProblemTexts.{begins_problem}
 use Rattle.script_text.specs.FullLines.{FloatAnswersAreFullLines}
-use Rattle.script_text.specs.Texts.{with_blanks, is_plain, is_full_line, IsFullLines}
+use Rattle.line_texts.specs.Lines.{with_blanks}
+use Rattle.script_text.specs.Texts.{is_plain, is_full_line, IsFullLines}
 
 -- what has no blank has no line feed
 plain_visible : (word : List ℕ) → All (λ c. 32 < c) word → is_plain word ≡ true

@@ -7,7 +7,8 @@ use Rattle.std.specs.Str.{byte}
 use Rattle.std.proofs.lemmas.Bool.{ne_eqb, lt-ltb}
 use Rattle.std.proofs.lemmas.List.Folds.{list_all-append}
 use Rattle.script_words.specs.Words.{is_line_feed}
-use Rattle.script_text.specs.Texts.{with_blanks, with_line_end, counted_lines, list_lines, is_plain, is_full_line, IsFullLines}
+use Rattle.line_texts.specs.Lines.{with_blanks, with_line_end, counted_lines, list_lines}
+use Rattle.script_text.specs.Texts.{is_plain, is_full_line, IsFullLines}
 
 and_both : (a b : Bool) → a ≡ true → b ≡ true → (a && b) ≡ true
 and_both a b e f = cc

@@ -1,5 +1,3 @@
-pub mod TextLemmas
-pub mod OutLemmas
 pub mod TableTextLemmas
 pub mod FullLineLemmas
 pub mod ProblemLineLemmas

@@ -55,12 +55,12 @@ use Rattle.bench_rules.specs.Tables.{table_of, found_of}
 use Rattle.bench_rules.specs.Answer.{Reply, IsReply, or_fault, of_trace, of_values, of_traces, trace_value, trace_sample, binary_value, line_answer, lines_answer, table_answer, found_answer, text_blocks, numbered_stanzas, stanzas_from, answer}
 use Rattle.script_words.specs.declared.line_fault.LineFault.{LineFault}
 use Rattle.script_words.specs.declared.line_fault.LineFault.TheVariants as line_faults
-use Rattle.script_text.specs.declared.session_fault.SessionFault.{SessionFault}
-use Rattle.script_text.specs.declared.session_fault.SessionFault.TheVariants as session_faults
+use Rattle.refusal_texts.specs.declared.session_fault.SessionFault.{SessionFault}
+use Rattle.refusal_texts.specs.declared.session_fault.SessionFault.TheVariants as session_faults
 use Rattle.script_words.specs.Words.{is_line_feed}
 use Rattle.script_text.specs.Texts.{is_plain, IsFullLines}
 use Rattle.script_text.specs.FullLines.{HasPlainTexts}
-use Rattle.script_text.specs.RefusalTexts.{line_fault_text, session_fault_text, no_trace, no_sample, text_fault_text, map_fault_text, refusal_text, ask_fault_text, refused_line}
+use Rattle.refusal_texts.specs.RefusalTexts.{line_fault_text, session_fault_text, no_trace, no_sample, text_fault_text, map_fault_text, refusal_text, ask_fault_text, refused_line}
 use Rattle.script_text.specs.Replies.{nothing, fault_reply, session_reply, edit_reply, query_reply}
 use Rattle.script_text.proofs.AnswerLineLemmas.{answers_are_full_lines}
 use Rattle.script_text.proofs.FullLineLemmas.{plain_both, plain_decimal, plain_first, no_word, word, plain_words, full_joined, one_line}

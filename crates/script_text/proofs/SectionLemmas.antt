@@ -5,11 +5,11 @@ use Rattle.std.specs.Fmt.{signed_decimal}
 use Rattle.float_codes.specs.declared.float_format.FloatFormat.{FloatFormat}
 use Rattle.device_io.specs.declared.write_fault.WriteFault.{WriteFault}
 use Rattle.shown_floats.proofs.WordLemmas.{some_word}
-use Rattle.script_text.specs.Devices.{Device}
-use Rattle.script_text.specs.Printing.{Outgoing, GoesOut, BreaksOut, Pushes}
+use Rattle.line_texts.specs.Devices.{Device}
+use Rattle.line_texts.specs.Printing.{Outgoing, GoesOut, BreaksOut, Pushes}
 use Rattle.script_text.specs.SectionTexts.{row_line, AreRowTexts, AreWords, IsRowText, IsWord}
-use Rattle.script_text.specs.Texts.{with_blanks}
-use Rattle.script_text.proofs.OutLemmas.{all_out, breaks_first, breaks_on, goes_on}
+use Rattle.line_texts.specs.Lines.{with_blanks}
+use Rattle.line_texts.proofs.OutLemmas.{all_out, breaks_first, breaks_on, goes_on}
 
 -- ---- one text behind another
 

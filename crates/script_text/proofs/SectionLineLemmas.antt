@@ -6,9 +6,10 @@ use Rattle.std.proofs.lemmas.Grind.{flat_map-append}
 use Rattle.std.proofs.lemmas.List.Folds.{list_all-append}
 use Rattle.float_codes.specs.declared.float_format.FloatFormat.{FloatFormat}
 use Rattle.bench_rules.specs.declared.ask_fault.AskFault.{AskFault}
-use Rattle.script_text.specs.RefusalTexts.{ask_fault_text, refused_line}
+use Rattle.refusal_texts.specs.RefusalTexts.{ask_fault_text, refused_line}
 use Rattle.script_text.specs.SectionTexts.{section_head, AreRowTexts, AreWords, IsRowText, IsWord}
-use Rattle.script_text.specs.Texts.{is_full_line, is_plain, with_blanks, with_line_end, with_line_ends, IsFullLines}
+use Rattle.line_texts.specs.Lines.{with_blanks, with_line_end, with_line_ends}
+use Rattle.script_text.specs.Texts.{is_full_line, is_plain, IsFullLines}
 use Rattle.script_text.proofs.FloatLineLemmas.{plain_rank}
 use Rattle.script_text.proofs.FullLineLemmas.{full_decimal, no_word, one_line, plain_decimal, plain_signed, word, words_line, Plain}
 use Rattle.script_text.proofs.PlainLemmas.{plain_ask_fault, refused_full}

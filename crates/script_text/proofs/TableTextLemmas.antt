@@ -3,7 +3,7 @@ use Rattle.std.proofs.Common.{◌≡◌, ◌∙◌, ℕ, ℤ, List, [], ◌∷�
 use Rattle.std.specs.Prelude.{codes, decimal}
 use Rattle.std.specs.Fmt.{signed_decimal}
 use Rattle.std.proofs.lemmas.List.{at_drop_more, at_drop_all}
-use Rattle.script_text.specs.Texts.{with_blanks, with_line_end}
+use Rattle.line_texts.specs.Lines.{with_blanks, with_line_end}
 use Rattle.script_text.specs.HeaderTexts.{table_row_text}
 
 -- each number behind a blank, and the end of the line

@@ -18,7 +18,8 @@ use Rattle.script_text.specs.ProblemTexts.{problems_text}
 use Rattle.script_text.specs.SectionTexts.{section_head}
 use Rattle.script_text.specs.SurveyTexts.{survey_text}
 use Rattle.script_text.specs.ReportTexts.{location_text, statistics_text, range_text, cell_text, numbered_text, fold_count_text, row_text, fault_text, trace_statistics_text}
-use Rattle.script_text.specs.Texts.{with_blanks, with_line_end, list_lines, place_text}
+use Rattle.line_texts.specs.Lines.{with_blanks, with_line_end, list_lines}
+use Rattle.script_text.specs.Texts.{place_text}
 
 -- the order of bytes
 abbrev pub order_text : Order → List ℕ

@@ -17,7 +17,7 @@ use Rattle.shown_floats.specs.declared.float_answer.FloatRow.{FloatRow}
 use Rattle.shown_floats.specs.declared.float_answer.FloatAnswer.{FloatAnswer}
 use Rattle.shown_floats.specs.declared.float_answer.FloatAnswer.TheVariants as floats
 use Rattle.script_text.specs.ProblemTexts.{begins_problem, problem_text}
-use Rattle.script_text.specs.Texts.{counted_lines, list_lines, with_blanks, with_line_end}
+use Rattle.line_texts.specs.Lines.{counted_lines, list_lines, with_blanks, with_line_end}
 
 -- a word of a float, or `none`
 abbrev pub word_or_none : Option FloatWord → List ℕ

@@ -4,7 +4,7 @@ use Rattle.std.specs.Fmt.{digits}
 use Rattle.bench_rules.specs.declared.answer.Answer.TheVariants as answers
 use Rattle.bench_rules.specs.declared.refusal.Refusal.TheVariants.{ZeroDivisor}
 use Rattle.script_text.specs.AnswerTexts.{answer_text}
-use Rattle.script_text.specs.RefusalTexts.{refused_line, refusal_text}
+use Rattle.refusal_texts.specs.RefusalTexts.{refused_line, refusal_text}
 use Rattle.script_text.specs.Replies.{edit_reply}
 
 pub text-table : answer_text (answers.Table ((9, pos 100 ∷ negsuc 0 ∷ []) ∷ (10, pos 200 ∷ pos 0 ∷ []) ∷ [])) ≡ codes "table 2\n9 100 -1\n10 200 0\n"

@@ -2,7 +2,7 @@
 use Rattle.std.specs.Prelude.{ℕ, ℤ, List, [], ◌∷◌, ◌++◌, map, decimal, codes}
 use Rattle.std.specs.Fmt.{signed_decimal}
 use Rattle.bench_rules.specs.declared.extremes.Extremes.{Extremes}
-use Rattle.script_text.specs.Texts.{with_blanks}
+use Rattle.line_texts.specs.Lines.{with_blanks}
 
 -- a trace's position and its numbers
 abbrev pub table_row_text : ℕ × List ℤ → List ℕ

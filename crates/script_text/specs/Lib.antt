@@ -1,13 +1,10 @@
 pub mod Texts
 pub mod FloatTexts
-pub mod RefusalTexts
 pub mod HeaderTexts
 pub mod ProblemTexts
 pub mod AnswerTexts
 pub mod Replies
 pub mod Held
-pub mod Devices
-pub mod Printing
 pub mod ReportTexts
 pub mod ReportExamples
 pub mod SurveyTexts

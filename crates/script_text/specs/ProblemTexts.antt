@@ -9,7 +9,7 @@ use Rattle.trace_groups.specs.declared.problem.TraceProblem.{TraceProblem}
 use Rattle.trace_groups.specs.declared.problem.TraceProblem.TheVariants as problems
 use Rattle.bench_rules.specs.declared.problem_line.ProblemLine.{ProblemLine}
 use Rattle.bench_rules.specs.declared.problem_line.ProblemLine.TheVariants as lines
-use Rattle.script_text.specs.Texts.{counted_lines, with_blanks}
+use Rattle.line_texts.specs.Lines.{counted_lines, with_blanks}
 
 -- the code of a problem that traces have
 abbrev pub code_of_problem : TraceProblem → List ℕ

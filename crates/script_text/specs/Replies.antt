@@ -4,12 +4,12 @@ use Rattle.bench_rules.specs.declared.refusal.Refusal.{Refusal}
 use Rattle.bench_rules.specs.declared.answer.Answer.{Answer}
 use Rattle.bench_rules.specs.declared.ask_fault.AskFault.{AskFault}
 use Rattle.script_words.specs.declared.line_fault.LineFault.{LineFault}
-use Rattle.script_text.specs.declared.session_fault.SessionFault.{SessionFault}
+use Rattle.refusal_texts.specs.declared.session_fault.SessionFault.{SessionFault}
 use Rattle.shown_floats.specs.declared.float_answer.FloatAnswer.{FloatAnswer}
 use Rattle.script_text.specs.AnswerTexts.{answer_text}
 use Rattle.script_text.specs.FloatTexts.{float_answer_text}
-use Rattle.script_text.specs.Texts.{with_blanks, with_line_end}
-use Rattle.script_text.specs.RefusalTexts.{accepted_line, refused_line, refusal_text, ask_fault_text, line_fault_text, session_fault_text}
+use Rattle.line_texts.specs.Lines.{with_blanks, with_line_end}
+use Rattle.refusal_texts.specs.RefusalTexts.{accepted_line, refused_line, refusal_text, ask_fault_text, line_fault_text, session_fault_text}
 
 -- what a line prints, and whether that is a refusal
 pub record Printed : Type 0 where

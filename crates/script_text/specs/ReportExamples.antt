@@ -6,7 +6,7 @@ use Rattle.key_counts.specs.Coordinates.{under_scalar, over, greatest_divisor}
 use Rattle.fault_live.specs.declared.fault.Fault.TheVariants.{Repeated, Scalar, Samples}
 use Rattle.bench_rules.specs.declared.answer.Answer.TheVariants as answers
 use Rattle.script_text.specs.AnswerTexts.{answer_text}
-use Rattle.script_text.specs.RefusalTexts.{load_refusal_line}
+use Rattle.refusal_texts.specs.RefusalTexts.{load_refusal_line}
 
 -- scalar -32768 over x -2147483648 and y 500
 pub text-geometry : answer_text (answers.Geometry (record {

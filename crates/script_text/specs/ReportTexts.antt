@@ -11,7 +11,7 @@ use Rattle.fault_live.specs.declared.fault.Fault.TheVariants.{Sequence, Samples,
 use Rattle.bench_rules.specs.declared.row.Row.{Row}
 use Rattle.bench_rules.specs.declared.location.Location.{Location}
 use Rattle.bench_rules.specs.declared.trace_statistics.TraceStatistics.{TraceStatistics}
-use Rattle.script_text.specs.Texts.{with_blanks}
+use Rattle.line_texts.specs.Lines.{with_blanks}
 
 -- a fraction in lowest terms: a whole number stands alone
 abbrev pub fraction_text : Ratio → List ℕ

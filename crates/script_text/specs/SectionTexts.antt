@@ -4,8 +4,8 @@ use Rattle.std.specs.Fmt.{signed_decimal}
 use Rattle.float_codes.specs.declared.float_format.FloatFormat.{FloatFormat}
 use Rattle.shown_floats.specs.Shows.{ShowsRank}
 use Rattle.bench_rules.specs.declared.ask_fault.AskFault.{AskFault}
-use Rattle.script_text.specs.RefusalTexts.{ask_fault_text, refused_line}
-use Rattle.script_text.specs.Texts.{with_blanks, with_line_end}
+use Rattle.refusal_texts.specs.RefusalTexts.{ask_fault_text, refused_line}
+use Rattle.line_texts.specs.Lines.{with_blanks, with_line_end}
 
 -- the line that a section begins with: of how many traces it is
 abbrev pub section_head : ℕ → List ℕ

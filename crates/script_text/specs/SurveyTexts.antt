@@ -5,7 +5,7 @@ use Rattle.line_problems.specs.declared.spans.LineSpan.{LineSpan}
 use Rattle.position_differences.specs.declared.difference.Difference.{Difference}
 use Rattle.cell_positions.specs.declared.survey.SurveyGrid.{SurveyGrid}
 use Rattle.script_text.specs.ReportTexts.{fraction_text}
-use Rattle.script_text.specs.Texts.{with_blanks}
+use Rattle.line_texts.specs.Lines.{with_blanks}
 
 -- the step from a line to the next; one line has none
 abbrev pub step_text : Option ℤ → List ℕ

@@ -1,22 +1,21 @@
 // The lines that are printed for answers.
 ghost use Rattle.std.specs.Prelude.{◌≡◌, ◌≤◌, ◌+◌, ◌++◌, [], Some, length, codes};
 ghost use Rattle.script_text.specs.AnswerTexts.{answer_text, ranks_text, info_text, order_text, yes_or_no, code_text, tail_text};
-ghost use Rattle.script_text.specs.Devices.{device_of};
-ghost use Rattle.script_text.specs.Printing.{Pushes};
-ghost use Rattle.script_text.specs.Texts.{with_line_end};
+ghost use Rattle.line_texts.specs.Devices.{device_of};
+ghost use Rattle.line_texts.specs.Printing.{Pushes};
+ghost use Rattle.line_texts.specs.Lines.{with_line_end};
 
 use crate::list_texts::{push_list, push_list_from_end};
 use crate::long_texts::{LongLine, push_long_list};
-use crate::out_buffer::OutBuffer;
 use crate::problem_texts::push_problems;
 use crate::report_texts::{location_line, range_line, statistics_line};
 use crate::section_texts::push_section_head;
 use crate::survey_texts::survey_line;
 use crate::table_texts::push_table;
-use crate::text_buffer::TextBuffer;
 use bench_rules::{Answer, FloatStatistics, Info};
 use device_io::{Sink, WriteFault};
 use itoa::Integer;
+use line_texts::{OutBuffer, TextBuffer};
 use num_order::Order;
 use std::io::Write;
 use text_block::Code;

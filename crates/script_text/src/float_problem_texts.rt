@@ -1,16 +1,15 @@
 // The lines that are printed for what is wrong or doubtful with a file whose samples are floats.
 ghost use Rattle.std.specs.Prelude.{◌≡◌, ◌≤◌, [], length, count_by};
-ghost use Rattle.script_text.specs.Devices.{device_of};
+ghost use Rattle.line_texts.specs.Devices.{device_of};
 ghost use Rattle.script_text.specs.FloatTexts.{float_name as name_of_float, float_problem_text, float_problems_text, float_run_text};
-ghost use Rattle.script_text.specs.Printing.{Pushes};
+ghost use Rattle.line_texts.specs.Printing.{Pushes};
 ghost use Rattle.script_text.specs.ProblemTexts.{begins_problem};
 
 use crate::list_texts::{Listed, push_counted};
-use crate::out_buffer::OutBuffer;
 use crate::problem_texts::begins;
-use crate::text_buffer::TextBuffer;
 use bench_rules::ProblemLine;
 use device_io::{Sink, WriteFault};
+use line_texts::{OutBuffer, TextBuffer};
 use shown_floats::{FloatWord, ShownProblem};
 use std::io::Write;
 use trace_groups::{Run, TraceProblem};

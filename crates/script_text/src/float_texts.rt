@@ -1,16 +1,15 @@
 // The lines that are printed for answers about samples that are floats.
 ghost use Rattle.std.specs.Prelude.{◌≡◌, ◌≤◌, ◌+◌, ◌++◌, [], codes, length};
 ghost use Rattle.shown_floats.specs.Shows.{word_of};
-ghost use Rattle.script_text.specs.Devices.{device_of};
+ghost use Rattle.line_texts.specs.Devices.{device_of};
 ghost use Rattle.script_text.specs.FloatTexts.{float_answer_text, float_row_text, stat_text, totals_text, word_or_none, least_of, greatest_of};
-ghost use Rattle.script_text.specs.Printing.{Pushes};
-ghost use Rattle.script_text.specs.Texts.{with_line_end};
+ghost use Rattle.line_texts.specs.Printing.{Pushes};
+ghost use Rattle.line_texts.specs.Lines.{with_line_end};
 
 use crate::float_problem_texts::push_float_problems;
 use crate::list_texts::{Listed, push_list};
-use crate::out_buffer::OutBuffer;
-use crate::text_buffer::TextBuffer;
 use device_io::{Sink, WriteFault};
+use line_texts::{OutBuffer, TextBuffer};
 use shown_floats::{FloatAnswer, FloatRow, FloatWord, ShownEnds, ShownStatistics, ShownTotals};
 use std::io::Write;
 

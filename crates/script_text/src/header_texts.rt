@@ -1,15 +1,13 @@
 // The lines that are printed for the headers of traces.
 ghost use Rattle.std.specs.Prelude.{◌≡◌, ◌≤◌, ◌++◌, codes, length};
 ghost use Rattle.script_text.specs.HeaderTexts.{found_text, number_text, four_numbers, extremes_text};
-ghost use Rattle.script_text.specs.Texts.{with_blanks};
+ghost use Rattle.line_texts.specs.Lines.{with_blanks};
 
 use crate::list_texts::Listed;
 use crate::long_texts::{LongLine, push_between};
-use crate::out_buffer::OutBuffer;
-use crate::text_buffer::TextBuffer;
-use crate::text_from_end::TextFromEnd;
 use bench_rules::{Extremes, Text};
 use device_io::{Sink, WriteFault};
+use line_texts::{OutBuffer, TextBuffer, TextFromEnd};
 use std::io::Write;
 
 // There may be a line for each trace: they are written with few steps.

@@ -1,13 +1,11 @@
 // The lines that are printed for a list: its word and their number, and then one for each item.
 ghost use Rattle.std.specs.Prelude.{◌≡◌, ◌≤◌, ◌++◌, ℕ, List, [], length, map, codes, decimal};
-ghost use Rattle.script_text.specs.Devices.{device_of};
-ghost use Rattle.script_text.specs.Printing.{Pushes};
-ghost use Rattle.script_text.specs.Texts.{counted_lines, list_lines, with_line_end};
+ghost use Rattle.line_texts.specs.Devices.{device_of};
+ghost use Rattle.line_texts.specs.Printing.{Pushes};
+ghost use Rattle.line_texts.specs.Lines.{counted_lines, list_lines, with_line_end};
 
-use crate::out_buffer::OutBuffer;
-use crate::text_buffer::TextBuffer;
-use crate::text_from_end::TextFromEnd;
 use device_io::{Sink, WriteFault};
+use line_texts::{OutBuffer, TextBuffer, TextFromEnd};
 use std::io::Write;
 
 /// What has a short line in a list, behind a word that the list gives to each line.

@@ -1,17 +1,17 @@
 // The lines that are printed for texts, and for lists of what has a text.
 ghost use Rattle.std.specs.Prelude.{◌≡◌, ◌≤◌, ◌++◌, ℕ, List, length, map};
 ghost use Rattle.text_block.specs.Lines.{without_blanks as without_blanks_of};
-ghost use Rattle.script_text.specs.Devices.{device_of};
-ghost use Rattle.script_text.specs.Printing.{Pushes};
-ghost use Rattle.script_text.specs.Texts.{list_lines, with_line_end, place_text};
+ghost use Rattle.line_texts.specs.Devices.{device_of};
+ghost use Rattle.line_texts.specs.Printing.{Pushes};
+ghost use Rattle.line_texts.specs.Lines.{list_lines, with_line_end};
+ghost use Rattle.script_text.specs.Texts.{place_text};
 ghost use Rattle.script_text.specs.AnswerTexts.{shown_text, stanza_text, field_text};
 
 use crate::list_texts::push_head;
-use crate::out_buffer::OutBuffer;
-use crate::text_buffer::TextBuffer;
 use bench_rules::Text;
 use device_io::{Sink, WriteFault};
 use field_map::Place;
+use line_texts::{OutBuffer, TextBuffer};
 use std::io::Write;
 
 /// What has a line of any length in a list.

@@ -1,16 +1,15 @@
 // The lines that are printed for what is wrong or doubtful with a file.
 ghost use Rattle.std.specs.Prelude.{◌≡◌, ◌≤◌, ◌+◌, ◌++◌, [], codes, decimal, length, count_by};
 ghost use Rattle.std.specs.Fmt.{signed_decimal};
-ghost use Rattle.script_text.specs.Devices.{device_of};
-ghost use Rattle.script_text.specs.Printing.{Pushes};
+ghost use Rattle.line_texts.specs.Devices.{device_of};
+ghost use Rattle.line_texts.specs.Printing.{Pushes};
 ghost use Rattle.script_text.specs.ProblemTexts.{begins_problem, code_of_problem, fold_text, jumps_text, no_survey_text, problem_text, problems_text, run_text};
 
 use crate::list_texts::{Listed, push_counted};
-use crate::out_buffer::OutBuffer;
-use crate::text_buffer::TextBuffer;
 use bench_rules::ProblemLine;
 use device_io::{Sink, WriteFault};
 use line_problems::{NoSurvey, UnevenFold};
+use line_texts::{OutBuffer, TextBuffer};
 use std::io::Write;
 use trace_groups::{Run, TraceProblem};
 

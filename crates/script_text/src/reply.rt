@@ -1,19 +1,19 @@
 // What is printed for a line of a script.
 ghost use Rattle.std.specs.Prelude.{◌≡◌};
-ghost use Rattle.script_text.specs.Devices.{device_of};
-ghost use Rattle.script_text.specs.Printing.{Pushes, nothing_out};
+ghost use Rattle.line_texts.specs.Devices.{device_of};
+ghost use Rattle.line_texts.specs.Printing.{Pushes, nothing_out};
 ghost use Rattle.script_text.specs.Held.{printed_of};
+ghost use Rattle.script_text.specs.Replies.{saved_line as line_of_save};
 
 use crate::answer_texts::{numbered_line, push_answer};
 use crate::float_texts::push_floats;
-use crate::out_buffer::OutBuffer;
-use crate::refusal_texts::{
-    ask_fault_line, line_fault_line, refusal_line, saved_line, session_fault_line,
-};
 use crate::section_texts::push_section_head;
-use crate::session_fault::SessionFault;
 use bench_rules::{Answer, AskFault, Refusal, Section};
 use device_io::{Sink, WriteFault};
+use line_texts::{OutBuffer, TextBuffer};
+use refusal_texts::{
+    SessionFault, ask_fault_line, line_fault_line, refusal_line, session_fault_line,
+};
 use script_words::LineFault;
 use shown_floats::FloatAnswer;
 use std::io::Write;
@@ -83,4 +83,14 @@ pub fn push_reply<W: Write>(
         }
         Reply::Asked(Err(fault)) => out.push(writer, ask_fault_line(*fault).as_slice()),
     }
+}
+
+// The line for a save of so many bytes.
+fn saved_line(bytes: u64) -> TextBuffer
+    ensures { result ≡ line_of_save bytes }
+{
+    let mut line = TextBuffer::new();
+    line.push_numbered(b"saved ", bytes);
+    line.push(b"\n");
+    line
 }

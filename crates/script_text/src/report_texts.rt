@@ -2,16 +2,15 @@
 ghost use Rattle.std.specs.Prelude.{◌≡◌, ◌≤◌, ◌+◌, ◌∷◌, ◌++◌, [], Some, codes, decimal, length};
 ghost use Rattle.std.specs.Fmt.{signed_decimal};
 ghost use Rattle.script_text.specs.ReportTexts.{location_text, fraction_text, statistics_text, range_text, cell_text, numbered_text, fold_count_text, row_text, fault_text};
-ghost use Rattle.script_text.specs.Texts.{with_blanks, with_line_end};
+ghost use Rattle.line_texts.specs.Lines.{with_blanks, with_line_end};
 
 use crate::list_texts::{Listed, ListedFromEnd};
-use crate::text_buffer::TextBuffer;
-use crate::text_from_end::TextFromEnd;
 use bench_rules::{Location, Row};
 use fault_live::Fault;
 use grid_live::{Cell, FoldCount, Line};
 use itoa::Integer;
 use key_counts::Ratio;
+use line_texts::{TextBuffer, TextFromEnd};
 use trace_record::Statistics;
 
 /// The line of where a trace lies.

@@ -1,6 +1,6 @@
-use crate::script_fault::ScriptFault;
 use edit_overlay::SaveFault;
 use frame_cut::LoadFault;
+use refusal_texts::ScriptFault;
 
 /// How a run ended.
 #[derive(Clone, Copy, Debug, PartialEq, Eq)]

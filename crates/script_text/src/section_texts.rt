@@ -1,17 +1,15 @@
 // The lines that are printed for samples of many traces, each while its trace is looked at.
 ghost use Rattle.std.specs.Prelude.{◌≡◌, ◌++◌, ℕ, List, codes};
-ghost use Rattle.script_text.specs.Devices.{device_of};
-ghost use Rattle.script_text.specs.Printing.{Pushes};
+ghost use Rattle.line_texts.specs.Devices.{device_of};
+ghost use Rattle.line_texts.specs.Printing.{Pushes};
 ghost use Rattle.script_text.specs.SectionTexts.{section_end as section_end_of, section_head, IsRowText, IsWord};
 
 use crate::answer_texts::numbered_line;
-use crate::out_buffer::OutBuffer;
-use crate::refusal_texts::ask_fault_line;
-use crate::text_buffer::TextBuffer;
-use crate::text_from_end::TextFromEnd;
 use bench_rules::AskFault;
 use device_io::{Sink, WriteFault};
 use float_codes::FloatFormat;
+use line_texts::{OutBuffer, TextBuffer, TextFromEnd};
+use refusal_texts::ask_fault_line;
 use sample_answers::AskedSamples;
 use shown_floats::FloatWord;
 use std::io::Write;

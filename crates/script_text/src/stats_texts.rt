@@ -7,8 +7,8 @@ ghost use Rattle.script_text.specs.ReportTexts.{counted_statistics_text, trace_s
 use crate::answer_texts::push_ranks;
 use crate::float_texts::{greatest, least, push_named};
 use crate::list_texts::Listed;
-use crate::text_buffer::TextBuffer;
 use bench_rules::{FloatTraceStatistics, TraceStatistics};
+use line_texts::TextBuffer;
 use shown_floats::{FloatWord, ShownEnds, ShownStatistics, ShownTrace};
 use trace_record::Statistics;
 

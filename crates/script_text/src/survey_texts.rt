@@ -1,12 +1,12 @@
 // The line that is printed for the grid of a survey.
 ghost use Rattle.std.specs.Prelude.{◌≡◌, ◌≤◌, ◌+◌, ◌++◌, [], Some, length};
 ghost use Rattle.script_text.specs.SurveyTexts.{difference_text, grid_text, span_text, step_text, survey_text};
-ghost use Rattle.script_text.specs.Texts.{with_line_end};
+ghost use Rattle.line_texts.specs.Lines.{with_line_end};
 
 use crate::report_texts::push_fraction;
-use crate::text_buffer::TextBuffer;
 use cell_positions::SurveyGrid;
 use line_problems::LineSpan;
+use line_texts::TextBuffer;
 use position_differences::Difference;
 
 /// The line of the grid of a survey.

@@ -1,17 +1,15 @@
 // The lines that are printed for a table.
 ghost use Rattle.script_text.specs.AnswerTexts.{answer_text};
-ghost use Rattle.script_text.specs.Devices.{device_of};
+ghost use Rattle.line_texts.specs.Devices.{device_of};
 ghost use Rattle.script_text.specs.HeaderTexts.{table_row_text};
-ghost use Rattle.script_text.specs.Printing.{Pushes};
-ghost use Rattle.script_text.specs.Texts.{with_line_end};
+ghost use Rattle.line_texts.specs.Printing.{Pushes};
+ghost use Rattle.line_texts.specs.Lines.{with_line_end};
 ghost use Rattle.bench_rules.specs.declared.answer.Answer.TheVariants as answers;
 
 use crate::list_texts::push_head;
-use crate::out_buffer::OutBuffer;
-use crate::text_buffer::TextBuffer;
-use crate::text_from_end::TextFromEnd;
 use bench_rules::Table;
 use device_io::{Sink, WriteFault};
+use line_texts::{OutBuffer, TextBuffer, TextFromEnd};
 use std::io::Write;
 
 /// Pushes the lines of a table. Takes no memory.

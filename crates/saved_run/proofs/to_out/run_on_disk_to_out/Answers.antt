@@ -1,7 +1,7 @@
 use Rattle.std.proofs.Common.{true, option_map}
 use Rattle.std.specs.Io.Buffered.{writer_contents}
 use Rattle.safe_save.specs.Saving.{beside_bytes}
-use Rattle.script_text.specs.Devices.{device_of}
+use Rattle.line_texts.specs.Devices.{device_of}
 use Rattle.saved_run.proofs.HeldLemmas.{held, on_ok}
 use Rattle.saved_run.proofs.to_out.run_on_disk_to_out.Goals as goal
 

@@ -1,7 +1,7 @@
 use Rattle.std.proofs.Common.{false, option_map}
 use Rattle.std.specs.Io.Buffered.{writer_contents}
 use Rattle.safe_save.specs.Saving.{beside_bytes}
-use Rattle.script_text.specs.Devices.{device_of}
+use Rattle.line_texts.specs.Devices.{device_of}
 use Rattle.saved_run.proofs.HeldLemmas.{held}
 use Rattle.saved_run.proofs.to_out.run_to_out.Goals as goal
 

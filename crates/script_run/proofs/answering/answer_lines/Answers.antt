@@ -1,8 +1,8 @@
 use Rattle.std.proofs.Common.{inl, inr, ◌∙◌, sym, refl, ap, arith}
 use Rattle.device_io.specs.Failures.{one_more as one_more_failure}
-use Rattle.script_text.specs.declared.script_fault.ScriptFault.TheVariants.{ReadFailed, TooLarge}
-use Rattle.script_text.specs.Devices.{device_of}
-use Rattle.script_text.proofs.OutLemmas.{stays}
+use Rattle.refusal_texts.specs.declared.script_fault.ScriptFault.TheVariants.{ReadFailed, TooLarge}
+use Rattle.line_texts.specs.Devices.{device_of}
+use Rattle.line_texts.proofs.OutLemmas.{stays}
 use Rattle.script_run.proofs.InputLemmas.{none_taken}
 use Rattle.script_run.proofs.ReadAsLemmas.{read_as_itself, read_as_then}
 use Rattle.script_run.proofs.SessionLemmas.{none_yet, whole, broken, endless, too_many, stops, breaks_off, one_more, cut_short, one_refused, none_refused, not_both}

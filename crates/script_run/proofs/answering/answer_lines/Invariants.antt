@@ -1,7 +1,7 @@
 use Rattle.std.proofs.Common.{◌≡◌, ◌≤◌}
 use Rattle.std.specs.Prelude.{IsTrue}
 use Rattle.live_volume.specs.Held.{IsReadAs}
-use Rattle.script_text.specs.Devices.{device_of}
+use Rattle.line_texts.specs.Devices.{device_of}
 use Rattle.script_run.specs.Input.{left_of}
 use Rattle.script_run.specs.Sessions.{standing}
 use Rattle.script_run.proofs.SessionLemmas.{SessionSoFar}

@@ -1,5 +1,5 @@
 use Rattle.std.proofs.Common.{◌∙◌, List, ℕ, true, subst, sym}
-use Rattle.script_text.specs.Devices.{device_of}
+use Rattle.line_texts.specs.Devices.{device_of}
 use Rattle.script_run.specs.OnDisk.{unread, read_whole}
 use Rattle.script_run.specs.Sessions.{Session, session_devices}
 use Rattle.script_run.proofs.EndLemmas.{loads_whole}

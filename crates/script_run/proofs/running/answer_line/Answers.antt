@@ -1,5 +1,5 @@
 use Rattle.std.proofs.Common.{subst}
-use Rattle.script_text.specs.Devices.{device_of}
+use Rattle.line_texts.specs.Devices.{device_of}
 use Rattle.script_text.specs.Replies.{Printed}
 use Rattle.script_run.specs.Telling.{IsWritten}
 use Rattle.script_run.proofs.TellLemmas.{followed_by_none}

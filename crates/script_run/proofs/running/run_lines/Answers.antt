@@ -1,8 +1,8 @@
 use Rattle.std.proofs.Common.{◌≤◌, ◌+◌, length, false, refl, sym, arith, ap, add-zero, Bool, ◌≡◌, ◌∙◌}
 use Rattle.std.specs.Prelude.{IsTrue}
-use Rattle.script_text.specs.Devices.{device_of}
+use Rattle.line_texts.specs.Devices.{device_of}
 use Rattle.script_words.specs.Words.{script_lines}
-use Rattle.script_text.proofs.OutLemmas.{stays}
+use Rattle.line_texts.proofs.OutLemmas.{stays}
 use Rattle.script_run.proofs.ReadAsLemmas.{read_as_itself, read_as_then}
 use Rattle.script_run.proofs.RunLemmas.{lines-le, none_yet, one_more, breaks_off, stops}
 use Rattle.script_run.proofs.running.run_lines.Goals as goal

@@ -1,7 +1,7 @@
 use Rattle.std.proofs.Common.{◌≡◌, ◌≤◌, ◌+◌, length}
 use Rattle.std.specs.Prelude.{IsTrue}
 use Rattle.live_volume.specs.Held.{IsReadAs}
-use Rattle.script_text.specs.Devices.{device_of}
+use Rattle.line_texts.specs.Devices.{device_of}
 use Rattle.script_words.specs.Words.{script_lines}
 use Rattle.script_run.proofs.RunLemmas.{SoFar}
 use Rattle.script_run.proofs.running.run_lines.Given as goal

@@ -1,5 +1,5 @@
 use Rattle.std.proofs.Common.{◌∙◌, [], refl, sym, append-nil}
-use Rattle.script_text.proofs.OutLemmas.{held}
+use Rattle.line_texts.proofs.OutLemmas.{held}
 use Rattle.script_run.proofs.SectionOutLemmas.{row_broken, row_pushed}
 use Rattle.script_run.proofs.sections.push_rows.Goals as goal
 

@@ -1,5 +1,5 @@
 use Rattle.std.proofs.Common.{◌≡◌, IsTrue, drop}
-use Rattle.script_text.specs.Devices.{device_of}
+use Rattle.line_texts.specs.Devices.{device_of}
 use Rattle.script_run.proofs.SectionOutLemmas.{RowsBegun}
 use Rattle.script_run.proofs.sections.push_rows.Given as goal
 

@@ -1,5 +1,5 @@
 use Rattle.std.proofs.Common.{◌∙◌, arith}
-use Rattle.script_text.proofs.OutLemmas.{by_fault}
+use Rattle.line_texts.proofs.OutLemmas.{by_fault}
 use Rattle.script_run.proofs.SectionOutLemmas.{all_written, behind_fails, end_broken, end_fails, end_out, flush_fails, head_broken, head_fails, head_out, printed_end, rows_fail}
 use Rattle.script_run.proofs.sections.write_section.Goals as goal
 

@@ -1,5 +1,5 @@
 use Rattle.script_text.specs.Held.{printed_of}
-use Rattle.script_text.proofs.OutLemmas.{by_fault}
+use Rattle.line_texts.proofs.OutLemmas.{by_fault}
 use Rattle.script_run.proofs.TellLemmas.{told_behind, told_at_last}
 use Rattle.script_run.proofs.told.write_text.Goals as goal
 

@@ -1,5 +1,5 @@
 use Rattle.std.proofs.Common.{refl, false, [], ◌∙◌, List, ℕ, subst, ap, Err}
-use Rattle.script_text.specs.Devices.{device_of}
+use Rattle.line_texts.specs.Devices.{device_of}
 use Rattle.script_run.specs.Sessions.{Session, session_devices}
 use Rattle.script_run.proofs.EndLemmas.{loads_in_memory}
 use Rattle.script_run.proofs.SessionEndLemmas.{load_end, session_in_memory}

@@ -1,7 +1,7 @@
 use Rattle.std.proofs.Common.{◌≡◌, ◌∙◌, ◌&&◌, not, Bool, true, false, refl, sym, subst, inr, arith}
 use Rattle.script_run.proofs.SessionEndLemmas.{asked_at_end, follows_loaded, goes_through, stops, loses_answer, tells_script, tells_part}
 use Rattle.script_run.specs.Sessions.{standing, SessionDevices, session_devices, SessionThrough}
-use Rattle.script_text.specs.Devices.{device_of}
+use Rattle.line_texts.specs.Devices.{device_of}
 use Rattle.script_run.specs.declared.session_lines.SessionLines.TheVariants.{Whole, Stopped, Answers, Script}
 use Rattle.script_run.proofs.WantLemmas.{refused_within}
 use Rattle.script_run.proofs.SessionWantLemmas.{answers_in}

@@ -2,7 +2,7 @@ use Rattle.std.proofs.Common.{rules, SFits}
 use Rattle.std.specs.Int.{w128}
 use Rattle.std.proofs.lemmas.Int.{to_z-of_z}
 use Rattle.std.specs.Fmt.{signed_decimal}
-use Rattle.script_text.proofs.TextLemmas.{four_behind}
+use Rattle.line_texts.proofs.TextLemmas.{four_behind}
 use Rattle.script_text.proofs.header_texts.put_extremes.Goals as goal
 
 pub returns : goal.returns

@@ -1,8 +1,8 @@
 use Rattle.std.proofs.Common.{ℕ, List, map, subst, sym}
 use Rattle.std.proofs.lemmas.List.{length-map}
-use Rattle.script_text.specs.Devices.{device_of}
-use Rattle.script_text.specs.Printing.{Pushes}
-use Rattle.script_text.specs.Texts.{counted_lines}
+use Rattle.line_texts.specs.Devices.{device_of}
+use Rattle.line_texts.specs.Printing.{Pushes}
+use Rattle.line_texts.specs.Lines.{counted_lines}
 use Rattle.script_text.proofs.list_texts.push_list.Goals as goal
 
 -- as many lines follow as the list has items

@@ -1,7 +1,7 @@
 use Rattle.std.proofs.Common.{map, drop}
-use Rattle.script_text.specs.Devices.{device_of}
-use Rattle.script_text.specs.Texts.{with_line_ends}
-use Rattle.script_text.proofs.OutLemmas.{Left}
+use Rattle.line_texts.specs.Devices.{device_of}
+use Rattle.line_texts.specs.Lines.{with_line_ends}
+use Rattle.line_texts.proofs.OutLemmas.{Left}
 use Rattle.script_text.proofs.list_texts.push_list_from_end.Given as goal
 
 -- since the head was pushed the lines of the items before this one were

@@ -1,5 +1,5 @@
 use Rattle.std.proofs.Common.{◌++◌}
-use Rattle.script_text.proofs.OutLemmas.{begun, goes_on, breaks_on, ends, by_fault}
+use Rattle.line_texts.proofs.OutLemmas.{begun, goes_on, breaks_on, ends, by_fault}
 use Rattle.script_text.proofs.long_texts.push_between.Goals as goal
 
 pub returns-in_err-push-2 : goal.returns-in_err-push-2

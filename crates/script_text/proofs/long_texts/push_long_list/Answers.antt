@@ -1,7 +1,7 @@
 use Rattle.std.proofs.Common.{◌≡◌, ◌+◌, ◌++◌, ◌∙◌, ℕ, List, length, map, drop, codes, decimal, sym, ap, refl, arith}
 use Rattle.std.proofs.lemmas.List.{length-map}
-use Rattle.script_text.specs.Texts.{with_line_end, with_line_ends}
-use Rattle.script_text.proofs.OutLemmas.{by_fault, not_yet, next_line, no_line, line_more, line_breaks, head_breaks, lines_break, lines_end}
+use Rattle.line_texts.specs.Lines.{with_line_end, with_line_ends}
+use Rattle.line_texts.proofs.OutLemmas.{by_fault, not_yet, next_line, no_line, line_more, line_breaks, head_breaks, lines_break, lines_end}
 use Rattle.script_text.proofs.long_texts.push_long_list.Goals as goal
 
 pub returns-in_err-push : goal.returns-in_err-push

@@ -1,7 +1,7 @@
 use Rattle.std.proofs.Common.{codes, decimal, rules, w32, SFits}
 use Rattle.std.proofs.lemmas.Int.{to_z-of_z}
 use Rattle.std.specs.Fmt.{signed_decimal}
-use Rattle.script_text.proofs.TextLemmas.{three_numbered}
+use Rattle.line_texts.proofs.TextLemmas.{three_numbered}
 use Rattle.script_text.proofs.problem_texts.push_no_survey.Goals as goal
 
 pub returns-clause-text : goal.returns-clause-text

@@ -2,7 +2,7 @@ use Rattle.std.proofs.Common.{codes, decimal, rules, SFits}
 use Rattle.std.specs.Int.{w128}
 use Rattle.std.proofs.lemmas.Int.{to_z-of_z}
 use Rattle.std.specs.Fmt.{signed_decimal}
-use Rattle.script_text.proofs.TextLemmas.{three_numbered}
+use Rattle.line_texts.proofs.TextLemmas.{three_numbered}
 use Rattle.script_text.proofs.problem_texts.push_run.Goals as goal
 
 pub returns-in-FarCrossline-clause-text : goal.returns-in-FarCrossline-clause-text

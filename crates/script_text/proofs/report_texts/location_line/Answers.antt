@@ -2,7 +2,7 @@ use Rattle.std.proofs.Common.{codes, rules, w32, SFits}
 use Rattle.std.proofs.lemmas.Int.{to_z-of_z}
 use Rattle.std.specs.Fmt.{signed_decimal}
 use Rattle.script_text.specs.ReportTexts.{fraction_text}
-use Rattle.script_text.proofs.TextLemmas.{five_behind}
+use Rattle.line_texts.proofs.TextLemmas.{five_behind}
 use Rattle.script_text.proofs.report_texts.location_line.Goals as goal
 
 pub returns : goal.returns

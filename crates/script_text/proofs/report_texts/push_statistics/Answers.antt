@@ -2,7 +2,7 @@ use Rattle.std.proofs.Common.{codes, decimal, rules, SFits}
 use Rattle.std.specs.Int.{w128}
 use Rattle.std.proofs.lemmas.Int.{to_z-of_z}
 use Rattle.std.specs.Fmt.{signed_decimal}
-use Rattle.script_text.proofs.TextLemmas.{four_numbered}
+use Rattle.line_texts.proofs.TextLemmas.{four_numbered}
 use Rattle.script_text.proofs.report_texts.push_statistics.Goals as goal
 
 pub returns-clause-text : goal.returns-clause-text

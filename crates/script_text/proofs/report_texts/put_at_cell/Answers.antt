@@ -1,6 +1,6 @@
 use Rattle.std.proofs.Common.{rules, ◌≡◌, ◌∷◌, ◌++◌, ◌∙◌}
 use Rattle.std.specs.Fmt.{signed_decimal}
-use Rattle.script_text.proofs.TextLemmas.{line_of_three}
+use Rattle.line_texts.proofs.TextLemmas.{line_of_three}
 use Rattle.script_text.proofs.report_texts.put_at_cell.Goals as goal
 
 pub returns : goal.returns

@@ -4,7 +4,7 @@ use Rattle.std.proofs.lemmas.Int.{to_z-of_z}
 use Rattle.float_codes.specs.declared.float_format.FloatFormat.{FloatFormat}
 use Rattle.shown_floats.specs.Shows.{word_of}
 use Rattle.script_text.specs.SectionTexts.{IsWord}
-use Rattle.script_text.proofs.OutLemmas.{begun, breaks_first, by_fault, ends}
+use Rattle.line_texts.proofs.OutLemmas.{begun, breaks_first, by_fault, ends}
 use Rattle.script_text.proofs.section_texts.push_sample.Goals as goal
 
 pub returns-in_err-push-in-Some : goal.returns-in_err-push-in-Some

@@ -1,7 +1,7 @@
 use Rattle.std.proofs.Common.{◌≡◌, [], append-nil, decimal, rules, SFits}
 use Rattle.std.specs.Int.{w128}
 use Rattle.std.proofs.lemmas.Int.{to_z-of_z}
-use Rattle.script_text.proofs.OutLemmas.{by_fault}
+use Rattle.line_texts.proofs.OutLemmas.{by_fault}
 use Rattle.script_text.proofs.SectionLemmas.{at_end, begun, breaks_at_first, breaks_further, goes_further, row_ends}
 use Rattle.script_text.proofs.section_texts.push_section_row.Goals as goal
 

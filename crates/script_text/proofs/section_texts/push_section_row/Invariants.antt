@@ -1,4 +1,4 @@
-use Rattle.script_text.specs.Devices.{device_of}
+use Rattle.line_texts.specs.Devices.{device_of}
 use Rattle.script_text.proofs.SectionLemmas.{Begun}
 use Rattle.script_text.proofs.section_texts.push_section_row.Given as goal
 

@@ -3,7 +3,7 @@ use Rattle.std.specs.Int.{w128}
 use Rattle.std.proofs.lemmas.Int.{to_z-of_z}
 use Rattle.std.specs.Fmt.{signed_decimal}
 use Rattle.script_text.specs.FloatTexts.{ends_in, greatest_of, least_of, sum_in, word_or_none}
-use Rattle.script_text.proofs.TextLemmas.{six_behind}
+use Rattle.line_texts.proofs.TextLemmas.{six_behind}
 use Rattle.script_text.proofs.stats_texts.push_words.Goals as goal
 
 pub returns-clause-text : goal.returns-clause-text

@@ -1,6 +1,6 @@
 use Rattle.std.proofs.Common.{codes}
 use Rattle.script_text.specs.ReportTexts.{fraction_text}
-use Rattle.script_text.proofs.TextLemmas.{both_parts}
+use Rattle.line_texts.proofs.TextLemmas.{both_parts}
 use Rattle.script_text.proofs.survey_texts.push_both.Goals as goal
 
 pub returns-clause-text : goal.returns-clause-text

@@ -1,6 +1,6 @@
 use Rattle.std.proofs.Common.{codes, decimal}
 use Rattle.script_text.specs.SurveyTexts.{difference_text, span_text}
-use Rattle.script_text.proofs.TextLemmas.{grid_parts}
+use Rattle.line_texts.proofs.TextLemmas.{grid_parts}
 use Rattle.script_text.proofs.survey_texts.push_grid.Goals as goal
 
 pub returns-clause-text : goal.returns-clause-text

@@ -2,7 +2,7 @@ use Rattle.std.proofs.Common.{codes, rules, w32, SFits}
 use Rattle.std.proofs.lemmas.Int.{to_z-of_z}
 use Rattle.std.specs.Fmt.{signed_decimal}
 use Rattle.script_text.specs.SurveyTexts.{step_text}
-use Rattle.script_text.proofs.TextLemmas.{span_parts}
+use Rattle.line_texts.proofs.TextLemmas.{span_parts}
 use Rattle.script_text.proofs.survey_texts.push_span.Goals as goal
 
 pub returns-clause-text : goal.returns-clause-text

@@ -3,8 +3,8 @@ use Rattle.std.specs.Int.{w128}
 use Rattle.std.proofs.lemmas.Int.{to_z-of_z}
 use Rattle.std.specs.Fmt.{signed_decimal}
 use Rattle.script_text.specs.HeaderTexts.{table_row_text}
-use Rattle.script_text.specs.Texts.{with_line_end}
-use Rattle.script_text.proofs.OutLemmas.{begun, by_fault, ends, line_more, line_breaks}
+use Rattle.line_texts.specs.Lines.{with_line_end}
+use Rattle.line_texts.proofs.OutLemmas.{begun, by_fault, ends, line_more, line_breaks}
 use Rattle.script_text.proofs.TableTextLemmas.{rest_of_row, row_is, next_number, no_number}
 use Rattle.script_text.proofs.table_texts.push_row.Goals as goal
 

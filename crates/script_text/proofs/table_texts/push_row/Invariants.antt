@@ -1,8 +1,8 @@
 use Rattle.std.proofs.Common.{drop}
-use Rattle.script_text.specs.Devices.{device_of}
+use Rattle.line_texts.specs.Devices.{device_of}
 use Rattle.script_text.specs.HeaderTexts.{table_row_text}
-use Rattle.script_text.specs.Texts.{with_line_end}
-use Rattle.script_text.proofs.OutLemmas.{Left}
+use Rattle.line_texts.specs.Lines.{with_line_end}
+use Rattle.line_texts.proofs.OutLemmas.{Left}
 use Rattle.script_text.proofs.TableTextLemmas.{rest_of_row}
 use Rattle.script_text.proofs.table_texts.push_row.Given as goal
 

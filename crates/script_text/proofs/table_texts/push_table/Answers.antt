@@ -2,8 +2,8 @@ use Rattle.std.proofs.Common.{◌≡◌, ◌<◌, ◌≤◌, ◌+◌, ◌++◌, 
 use Rattle.std.proofs.lemmas.List.{length-map}
 use Rattle.std.proofs.lemmas.Option.{get_or_from_slice_get}
 use Rattle.script_text.specs.HeaderTexts.{table_row_text}
-use Rattle.script_text.specs.Texts.{with_line_end, with_line_ends}
-use Rattle.script_text.proofs.OutLemmas.{by_fault, next_line, no_line, line_more, line_breaks, head_breaks, lines_break, lines_end}
+use Rattle.line_texts.specs.Lines.{with_line_end, with_line_ends}
+use Rattle.line_texts.proofs.OutLemmas.{by_fault, next_line, no_line, line_more, line_breaks, head_breaks, lines_break, lines_end}
 use Rattle.script_text.proofs.table_texts.push_table.Goals as goal
 
 pub returns-in_err-push : goal.returns-in_err-push

@@ -1,6 +1,6 @@
 use Rattle.std.proofs.Common.{rules, ◌≡◌, ◌∷◌, ◌++◌, ◌∙◌, codes, decimal}
 use Rattle.std.specs.Fmt.{signed_decimal}
-use Rattle.script_text.proofs.TextLemmas.{line_of_four}
+use Rattle.line_texts.proofs.TextLemmas.{line_of_four}
 use Rattle.script_text.proofs.report_texts.RowListedFromEnd.put_text.Goals as goal
 
 pub returns : goal.returns

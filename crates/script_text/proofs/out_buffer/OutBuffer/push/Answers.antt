@@ -1,7 +1,0 @@
-use Rattle.std.proofs.Common.{[], refl}
-use Rattle.script_text.proofs.OutLemmas.{ends}
-use Rattle.script_text.proofs.out_buffer.OutBuffer.push.Goals as goal
-
-pub returns : goal.returns
-returns g c =
-    ends c.write.result _ _ _ _ _ _ c.args.text.now c.args.text.now (record { done = []; out = c.in_ok-flush.ensures.pushed; joined = refl }) c.write.ensures

@@ -1,8 +1,0 @@
-use Rattle.std.proofs.Common.{codes, decimal}
-use Rattle.script_text.proofs.TextLemmas.{four_parts}
-use Rattle.script_text.proofs.refusal_texts.push_no_sample.Goals as goal
-
-pub returns-clause-text : goal.returns-clause-text
-returns-clause-text c =
-    rw (c.push_number-2.ensures.text, c.push-2.ensures, c.push_number.ensures.text, c.push.ensures)
-    (four_parts c.args.line.now (codes "E05 no sample ") (decimal c.args.k) (codes " of ") (decimal c.args.number))

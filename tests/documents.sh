@@ -75,7 +75,7 @@ problem_codes() { grep -o 'codes "\(problem \)\?[FS][0-9]*' "$top/crates/script_
 problem_rows() { sed -n '/^### problems/,/^## /s/^| \([FS][0-9]*\) |.*/\1/p' "$top/docs/MANUAL.md"; }
 same 'the problems of the manual' "$(problem_codes)" "$(problem_rows)"
 # a text of the definitions ends where a number follows, and the manual has a letter there
-texts() { grep -o 'codes "[LPSE][0-9][0-9] [^"]*"' "$top/crates/script_text/specs/RefusalTexts.antt" | sed 's/codes "//; s/ *"$//' | sort -u; }
+texts() { grep -o 'codes "[LPSE][0-9][0-9] [^"]*"' "$top/crates/refusal_texts/specs/RefusalTexts.antt" | sed 's/codes "//; s/ *"$//' | sort -u; }
 rows() { but_problems | sed -n 's/^| \([LPSE][0-9][0-9]\) | `\([^`]*\)` |.*/\1 \2/p' | sed 's/ [A-Z]\( of N\| bytes\)\?$//; s/ A\.B$//' | sort -u; }
 same 'the refusals of the manual' "$(texts)" "$(rows)"
 [ "$(texts | wc -l)" -ge 40 ] && tell 'there are refusals' ok || tell 'there are refusals' "$(texts | wc -l)"

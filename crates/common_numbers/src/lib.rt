@@ -1,6 +1,6 @@
 //! The number that stands most often in a list. `commonest` takes memory for a copy of the list,
-//! and gives up only where that was refused. The call that is named for a law does nothing: its
-//! contract is the law.
+//! but where all are one number, and gives up only where that was refused. The call that is named
+//! for a law does nothing: its contract is the law.
 #![tactic(auto)]
 
 mod laws;

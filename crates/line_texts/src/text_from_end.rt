@@ -6,7 +6,7 @@ ghost use Rattle.std.specs.Fmt.{signed_decimal};
 use itoa::{Buffer, write_digits};
 use std::marker::Model;
 
-// Room for four numbers of 128 bits.
+// Room for four numbers of 128 bits, a word of 20 letters, blanks and the end of a line.
 const ROOM: usize = 192;
 
 /// A text of at most 192 bytes, seen as the list of its bytes.

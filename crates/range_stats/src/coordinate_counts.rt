@@ -46,15 +46,12 @@ impl CoordinateCounts {
     /// for want of it alone.
     pub fn from_keys(
         room: &mut Room,
-        mut keys: Vec<PackedRatio>,
+        keys: Vec<PackedRatio>,
     ) -> Result<CoordinateCounts, OutOfMemory>
         ensures numbers { IfOk result (λ v. (q : Ratio) →
             count_of ratio_cmp v q ≡ times_in ratio_cmp (map ratio_in keys.items) q) }
         ensures memory { Rises (IsErr result) room.old room.new }
     {
-        // Coordinates with one denominator, as most files have them, come into their order by their
-        // bits alone, which are compared much faster than two fractions.
-        keys.sort_unstable_by_key(|key| key.bits);
         let packed = Counts::from_keys(room, keys)?;
         Ok(CoordinateCounts { packed })
     }

@@ -108,7 +108,7 @@ pub fn refusal_line(refusal: Refusal) -> TextBuffer
     line
 }
 
-// The line for a refused query.
+/// The line for a refused query.
 pub fn ask_fault_line(fault: AskFault) -> TextBuffer
     ensures { result ≡ refused_line (ask_fault_text fault) }
 {

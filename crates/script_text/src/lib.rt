@@ -26,4 +26,3 @@ pub use crate::laws::{answers_are_full_lines, float_answers_are_full_lines};
 pub use crate::reply::{Reply, is_refusal, push_reply};
 pub use crate::run_end::RunEnd;
 pub use crate::section_texts::{push_section_head, push_section_row, section_end};
-pub use line_texts::{OutBuffer, TextBuffer, write_text};

@@ -20,8 +20,8 @@ pub(crate) trait Listed {
         ensures short { length line.new ≤ 639 };
 }
 
-/// What has a line of numbers in a list of many, built from its end, behind a word that the list
-/// gives to each line.
+/// What has a line of numbers in a long list, built from its end, behind a word that the list gives
+/// to each line.
 pub(crate) trait ListedFromEnd {
     ghost text: { List ℕ → Self → List ℕ };
 

@@ -7,6 +7,7 @@ ghost use Rattle.trace_view.specs.Values.{sample_of};
 ghost use Rattle.trace_record.specs.Facts.{facts_of};
 ghost use Rattle.trace_record.specs.Packed.{record_in};
 ghost use Rattle.edit_overlay.specs.CountedVolume.{after_look, IsSeen};
+ghost use Rattle.edit_overlay.specs.Reads.{Follow, HaveAgreed, IsFaultOfLook};
 ghost use Rattle.time_slice.specs.Faults.{IsOfRead};
 ghost use Rattle.time_slice.specs.Fitting.{value_fits};
 ghost use Rattle.bench_rules.specs.SlicesOfRecords.{with_sample_of};
@@ -34,7 +35,7 @@ pub fn rows(
     overlay: &mut Overlay<PackedRecord>,
     k: u32,
 ) -> Result<Vec<Row>, SliceFault>
-    ensures rows { IfOk result (λ v. IsTrue overlay.new.agreed → v.items ≡ slice_rows
+    ensures rows { IfOk result (λ v. HaveAgreed overlay.new.reads → v.items ≡ slice_rows
         (with_sample_of overlay.old.volume.head k (map record_in overlay.old.payloads)
         overlay.old.volume.traces)) }
     ensures fits { IfOk result (λ v.
@@ -55,7 +56,7 @@ fn rows_in_place(
     overlay: &mut Overlay<PackedRecord>,
     k: u32,
 ) -> Result<Vec<Row>, SliceFault>
-    ensures rows { IfOk result (λ v. IsTrue overlay.new.agreed → v.items ≡ rows_from 1
+    ensures rows { IfOk result (λ v. HaveAgreed overlay.new.reads → v.items ≡ rows_from 1
         (with_sample_of overlay.old.volume.head k (map record_in overlay.old.payloads)
         overlay.old.volume.traces)) }
     ensures fits { IfOk result (λ v.
@@ -83,13 +84,14 @@ fn rows_in_place(
 #[inline]
 fn sample_in(overlay: &mut Overlay<PackedRecord>, p: u32, k: u32) -> Result<Option<i128>, ReadFault>
     requires { IsTrue (is_trace overlay.old.volume p) }
-    ensures sample { IfOk result (λ sample. IsTrue overlay.new.agreed →
+    ensures sample { IfOk result (λ sample. HaveAgreed overlay.new.reads →
         sample ≡ sample_of overlay.old.volume.head (trace_at overlay.old.volume p) k) }
     ensures fits { IfOk result (λ sample.
         IfSome sample (λ v. IsTrue (value_fits overlay.old.volume.head.format v))) }
-    ensures looked { overlay.new ≡ after_look overlay.old overlay.new.agreed }
-    ensures agreed { IsTrue overlay.new.agreed → IsTrue overlay.old.agreed }
+    ensures looked { overlay.new ≡ after_look overlay.old overlay.new.reads }
+    ensures reads { Follow overlay.old.reads overlay.new.reads }
     ensures read { IfErr result (λ _. IsTrue overlay.old.loaded.on_disk) }
+    ensures reads_tell { IfErr result (IsFaultOfLook overlay.old.reads overlay.new.reads) }
 {
     let Some(trace) = overlay.look(p)? else {
         unreachable!()

@@ -4,6 +4,7 @@ ghost use Rattle.frame_cut.specs.Traces.{count_of};
 ghost use Rattle.trace_record.specs.Facts.{facts_of};
 ghost use Rattle.trace_record.specs.Packed.{record_in};
 ghost use Rattle.edit_overlay.specs.CountedVolume.{IsSeen};
+ghost use Rattle.edit_overlay.specs.Reads.{HaveAgreed};
 ghost use Rattle.lru.specs.LruCache.{lru_cache};
 ghost use Rattle.time_slice.specs.Faults.{IsOfRead};
 ghost use Rattle.time_slice.specs.Fitting.{value_fits};
@@ -75,12 +76,12 @@ impl SliceCache {
         overlay: &mut Overlay<PackedRecord>,
         k: u32,
     ) -> Result<Vec<Row>, SliceFault>
-        requires { IsTrue overlay.old.agreed → AreRightOf overlay.old.volume.head
+        requires { HaveAgreed overlay.old.reads → AreRightOf overlay.old.volume.head
             (map record_in overlay.old.payloads) overlay.old.volume.traces self.old.entries }
-        ensures rows { IfOk result (λ v. IsTrue overlay.new.agreed → v.items ≡ slice_rows
+        ensures rows { IfOk result (λ v. HaveAgreed overlay.new.reads → v.items ≡ slice_rows
             (with_sample_of overlay.old.volume.head k (map record_in overlay.old.payloads)
             overlay.old.volume.traces)) }
-        ensures ok { IfOk result (λ v. IsTrue overlay.new.agreed →
+        ensures ok { IfOk result (λ v. HaveAgreed overlay.new.reads →
             self.new ≡ after_slice self.old k v.items) }
         ensures asked { IfOk result (λ v. IsAsked self.old self.new k v.items) }
         ensures err { OnErr result (self.new ≡ self.old) }

@@ -1,5 +1,5 @@
 use Rattle.trace_store.proofs.FallLemmas.{store_falls}
-use Rattle.trace_store.proofs.store.TraceStore.fetch_loaded.Goals as goal
+use Rattle.trace_store.proofs.loaded.TraceStore.fetch_loaded.Goals as goal
 
 pub invariant_of-self : goal.invariant_of-self
 invariant_of-self g c =

@@ -1,5 +1,5 @@
 -- Standings that fall, and bytes in memory, which never do.
-use Rattle.std.proofs.Common.{◌≡◌, ℕ, ◌+◌, ◌≤◌, List, length, take, drop, refl, sym, ◌∙◌, subst}
+use Rattle.std.proofs.Common.{◌≡◌, ℕ, ◌+◌, ◌≤◌, List, length, take, drop, refl, sym, ◌∙◌, subst, arith}
 use Rattle.base_file.specs.HeldBytes.{Standing, InMemory, OnDisk, HeldBytes, IsInMemory, IsSure, Falls, IsStill, lent_by, lent_of, are_there, AreThere}
 
 -- ---- standings
@@ -33,7 +33,7 @@ memory_stays (OnDisk agreed) new falls inside = absurd inside
 -- ---- what is held
 
 pub IsStill-refl : (h : HeldBytes) → IsStill h h
-IsStill-refl h = record { bytes = refl; standing = Falls-refl h.standing; most = refl; front = refl; back = refl }
+IsStill-refl h = record { bytes = refl; standing = Falls-refl h.standing; most = refl; front = refl; back = refl; failures = omega arith }
 
 pub IsStill-trans : (a b c : HeldBytes) → IsStill a b → IsStill b c → IsStill a c
 IsStill-trans a b c first second = record {
@@ -42,6 +42,7 @@ IsStill-trans a b c first second = record {
   most = second.most ∙ first.most;
   front = second.front ∙ first.front;
   back = second.back ∙ first.back;
+  failures = omega (arith, first.failures, second.failures);
 }
 
 there_by : (standing : Standing) (bytes room : List ℕ) (from at n : ℕ) → IsInMemory standing → at + n ≤ length bytes → are_there standing bytes room from at n

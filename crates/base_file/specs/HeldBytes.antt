@@ -29,7 +29,7 @@ Falls (OnDisk agreed) InMemory = ⊥
 Falls (OnDisk agreed) (OnDisk later) = IsTrue later → IsTrue agreed
 
 -- bytes that were loaded and their standing, which of them were read last and from which place on, how many there is room
--- for, and how many of the first and of the last ones are kept
+-- for, how many of the first and of the last ones are kept, and how many reads of them failed
 pub record HeldBytes : Type 0 where
   pub bytes : List ℕ
   pub standing : Standing
@@ -38,16 +38,18 @@ pub record HeldBytes : Type 0 where
   pub most : ℕ
   pub front : ℕ
   pub back : ℕ
+  pub failures : ℕ
 
--- the same bytes, with as much room, of which as many are kept, and which stand as they did or have fallen
+-- the same bytes, with as much room, of which as many are kept, and which stand as they did or have fallen; no fewer reads failed
 pub record IsStill (old new : HeldBytes) : Type 0 where
   pub bytes : new.bytes ≡ old.bytes
   pub standing : Falls old.standing new.standing
   pub most : new.most ≡ old.most
   pub front : new.front ≡ old.front
   pub back : new.back ≡ old.back
+  pub failures : old.failures ≤ new.failures
 
--- more bytes behind those that were there, which stand as they did
+-- more bytes behind those that were there, which stand as they did; no fewer reads failed
 pub record HasGrown (old new : HeldBytes) : Type 0 where
   pub begins : take (length old.bytes) new.bytes ≡ old.bytes
   pub standing : new.standing ≡ old.standing
@@ -56,6 +58,7 @@ pub record HasGrown (old new : HeldBytes) : Type 0 where
   pub most : new.most ≡ old.most
   pub front : new.front ≡ old.front
   pub back : new.back ≡ old.back
+  pub failures : old.failures ≤ new.failures
 
 -- what is lent: the bytes themselves, or what was read last
 abbrev pub lent_by : Standing → (bytes room : List ℕ) (from at n : ℕ) → List ℕ

@@ -39,5 +39,6 @@ pub mod ToldLemmas
 pub mod TestLemmas
 pub mod TestTermLemmas
 pub mod MemoryLemmas
+pub mod ReadTellLemmas
 pub mod EditMemoryLemmas
 pub mod LackLemmas

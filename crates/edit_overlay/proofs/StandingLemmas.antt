@@ -2,11 +2,15 @@
 use Rattle.std.proofs.Common.{◌≡◌, ◌≤◌, ℕ, true, false, IsTrue, refl, ap, subst, Result, Err}
 use Rattle.std.specs.Prelude.{IsOk}
 use Rattle.std.proofs.lemmas.Bool.{le-leb}
-use Rattle.base_file.specs.HeldBytes.{Standing, InMemory, OnDisk, Falls, IsInMemory, IsSure}
+use Rattle.base_file.specs.HeldBytes.{HeldBytes, Standing, InMemory, OnDisk, Falls, IsInMemory, IsStill, IsSure}
+use Rattle.base_file.specs.declared.read_fault.ReadFault.{ReadFault}
+use Rattle.base_file.specs.declared.read_fault.ReadFault.TheVariants.{ReadFailed, Changed, TooLarge}
 use Rattle.base_file.proofs.HeldLemmas.{sure_before}
 use Rattle.frame_cut.specs.Traces.{count_of, is_trace}
 use Rattle.frame_cut.specs.Volume.{Volume}
-use Rattle.edit_overlay.specs.Standings.{is_on_disk, is_sure}
+use Rattle.trace_store.specs.Faults.{IsFaultOfLook as IsFaultOfFetch}
+use Rattle.edit_overlay.specs.Reads.{Follow, IsFaultOfLook}
+use Rattle.edit_overlay.specs.Standings.{is_on_disk, is_sure, reads_in}
 
 true_is_not_false : true ≡ false → ⊥
 true_is_not_false e = cc
@@ -46,6 +50,16 @@ on_disk_stays (OnDisk a) (OnDisk b) falls = refl
 -- and what agrees agreed before
 pub agreed_before : (old new : Standing) → Falls old new → IsTrue (is_sure new) → IsTrue (is_sure old)
 agreed_before old new falls sure = is_sure_if old (sure_before old new falls (sure_is new sure))
+
+-- reads of the same bytes go on
+pub reads_follow : (old new : HeldBytes) → IsStill old new → Follow (reads_in old) (reads_in new)
+reads_follow old new still = record { agreed = agreed_before old.standing new.standing still.standing; failures = still.failures }
+
+-- two words for the same: why a look was refused
+pub fault_told : (old new : HeldBytes) (fault : ReadFault) → IsFaultOfFetch old new fault → IsFaultOfLook (reads_in old) (reads_in new) fault
+fault_told old new ReadFailed told = told
+fault_told old new TooLarge told = told
+fault_told old new Changed told = λ sure. told (sure_is new.standing sure)
 
 -- a trace from the first to the last is there
 pub trace_there : (v : Volume) (p : ℕ) → 1 ≤ p → p ≤ count_of v → IsTrue (is_trace v p)

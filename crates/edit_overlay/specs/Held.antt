@@ -8,7 +8,7 @@ use Rattle.frame_cut.specs.Layout.{tail_at}
 use Rattle.frame_cut.specs.Volume.{Volume, bytes_of}
 use Rattle.trace_store.specs.Ahead.{traces_ahead, IsReadyIfSome}
 use Rattle.edit_overlay.specs.CountedVolume.{CountedVolume}
-use Rattle.edit_overlay.specs.Standings.{is_sure, loaded_in}
+use Rattle.edit_overlay.specs.Standings.{loaded_in, reads_in}
 use Rattle.trace_store.specs.Fetched.{IsFetched, IsFetchedThen}
 use Rattle.trace_store.specs.declared.prepared.Prepared.{Prepared}
 use Rattle.trace_store.specs.Stores.{payloads_ahead, payloads_of, traces_of}
@@ -40,7 +40,7 @@ looked_of o = record {
   payloads = payloads_of o.laid.store;
   payloads_prepared = payloads_ahead (payloads_of o.laid.store) o.laid.prepared;
   loaded = loaded_in o.laid.store.loaded;
-  agreed = is_sure o.laid.store.loaded.standing;
+  reads = reads_in o.laid.store.loaded;
 }
 
 -- the loaded file has the blocks in front of its traces, and so many bytes of no trace and the data trailer records behind

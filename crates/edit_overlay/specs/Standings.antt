@@ -2,6 +2,7 @@
 use Rattle.std.specs.Prelude.{Bool, true, false}
 use Rattle.base_file.specs.HeldBytes.{HeldBytes, Standing, InMemory, OnDisk}
 use Rattle.edit_overlay.specs.Loaded.{Loaded}
+use Rattle.edit_overlay.specs.Reads.{Reads}
 
 -- the bytes are on disk, so that a read of them may fail
 abbrev pub is_on_disk : Standing → Bool
@@ -16,3 +17,7 @@ loaded_in h = record { bytes = h.bytes; on_disk = is_on_disk h.standing }
 abbrev pub is_sure : Standing → Bool
 is_sure InMemory = true
 is_sure (OnDisk agreed) = agreed
+
+-- what is known of the reads
+abbrev pub reads_in : HeldBytes → Reads
+reads_in h = record { agreed = is_sure h.standing; failures = h.failures }

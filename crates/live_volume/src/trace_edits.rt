@@ -6,6 +6,7 @@ ghost use Rattle.frame_cut.specs.Traces.{is_trace, trace_at};
 ghost use Rattle.bench_rules.specs.declared.edit.Edit.TheVariants as edits;
 ghost use Rattle.bench_rules.specs.declared.refusal.Refusal.TheVariants.{OutOfMemory as no_memory};
 ghost use Rattle.edit_overlay.specs.CountedVolume.{RisesAtMost};
+ghost use Rattle.edit_overlay.specs.Reads.{Follow, HaveAgreed};
 ghost use Rattle.bench_rules.specs.Looks.{trace_looks};
 ghost use Rattle.bench_rules.specs.Refused.{first_refusal, no_trace};
 ghost use Rattle.bench_rules.specs.Steps.{IsAfter, Step};
@@ -42,11 +43,11 @@ impl LiveVolume {
         k: u32,
         values: &[i128],
     ) -> Result<(), Refusal>
-        ensures step { IsTrue self.new.agreed →
+        ensures step { HaveAgreed self.new.reads →
             Step self.old.state (edits.Patch p k values.now) result self.new.state }
         ensures err { OnErr result (self.new.state ≡ self.old.state) }
         ensures same { IsReadAs self.old.state self.new.state }
-        ensures agreed { IsTrue self.new.agreed → IsTrue self.old.agreed }
+        ensures reads { Follow self.old.reads self.new.reads }
         ensures loaded { self.new.loaded ≡ self.old.loaded }
         ensures looks { RisesAtMost self.old.looks self.new.looks
             (trace_looks self.old.state.volume p 2) }
@@ -66,15 +67,15 @@ impl LiveVolume {
         values: &[i128],
     ) -> Result<(), Refusal>
         requires room { HasSampleRoom self.old.state.volume p at values.now }
-        requires none { IsTrue self.old.agreed →
+        requires none { HaveAgreed self.old.reads →
             first_refusal self.old.state (edits.Patch p k values.now) ≡ None }
-        requires place { IsTrue self.old.agreed → at ≡ sample_start self.old.state.volume p k }
-        ensures ok { OnOk result (IsTrue self.new.agreed →
+        requires place { HaveAgreed self.old.reads → at ≡ sample_start self.old.state.volume p k }
+        ensures ok { OnOk result (HaveAgreed self.new.reads →
             IsAfter self.old.state (edits.Patch p k values.now) self.new.state) }
         ensures err { IfErr result (λ refusal. IsOfMachine self.old.state.on_disk refusal ×
             (self.new.state ≡ self.old.state)) }
         ensures same { IsReadAs self.old.state self.new.state }
-        ensures agreed { IsTrue self.new.agreed → IsTrue self.old.agreed }
+        ensures reads { Follow self.old.reads self.new.reads }
         ensures loaded { self.new.loaded ≡ self.old.loaded }
         ensures looks { RisesAtMost self.old.looks self.new.looks 1 }
         ensures memory { Rises (IsErrOf result Refusal.OutOfMemory) room.old room.new }
@@ -89,11 +90,11 @@ impl LiveVolume {
 
     // A blank trace in front of trace p, or behind the last, or the first refusal: E01, E09, E10.
     pub(crate) fn blank(&mut self, room: &mut Room, p: u32) -> Result<(), Refusal>
-        ensures step { IsTrue self.new.agreed →
+        ensures step { HaveAgreed self.new.reads →
             Step self.old.state (edits.Blank p) result self.new.state }
         ensures err { OnErr result (self.new.state ≡ self.old.state) }
         ensures same { IsReadAs self.old.state self.new.state }
-        ensures agreed { IsTrue self.new.agreed → IsTrue self.old.agreed }
+        ensures reads { Follow self.old.reads self.new.reads }
         ensures loaded { self.new.loaded ≡ self.old.loaded }
         ensures looks { self.new.looks ≡ self.old.looks }
         ensures memory { Rises (IsErrOf result Refusal.OutOfMemory) room.old room.new }
@@ -107,12 +108,12 @@ impl LiveVolume {
     // A blank trace in front of trace p, or behind the last, where nothing but memory refuses it.
     fn insert_blank(&mut self, room: &mut Room, p: u32) -> Result<(), Refusal>
         requires { first_refusal self.old.state (edits.Blank p) ≡ None }
-        ensures ok { OnOk result (IsTrue self.new.agreed →
+        ensures ok { OnOk result (HaveAgreed self.new.reads →
             IsAfter self.old.state (edits.Blank p) self.new.state) }
         ensures err { IfErr result (λ refusal. (refusal ≡ no_memory) ×
             (self.new.state ≡ self.old.state)) }
         ensures same { IsReadAs self.old.state self.new.state }
-        ensures agreed { IsTrue self.new.agreed → IsTrue self.old.agreed }
+        ensures reads { Follow self.old.reads self.new.reads }
         ensures loaded { self.new.loaded ≡ self.old.loaded }
         ensures looks { self.new.looks ≡ self.old.looks }
         ensures memory { Rises (IsErrOf result Refusal.OutOfMemory) room.old room.new }
@@ -126,11 +127,11 @@ impl LiveVolume {
     // A copy of trace q in front of trace p, or behind the last, or the first refusal: E01, E09,
     // E10.
     pub(crate) fn copy(&mut self, room: &mut Room, q: u32, p: u32) -> Result<(), Refusal>
-        ensures step { IsTrue self.new.agreed →
+        ensures step { HaveAgreed self.new.reads →
             Step self.old.state (edits.Copy q p) result self.new.state }
         ensures err { OnErr result (self.new.state ≡ self.old.state) }
         ensures same { IsReadAs self.old.state self.new.state }
-        ensures agreed { IsTrue self.new.agreed → IsTrue self.old.agreed }
+        ensures reads { Follow self.old.reads self.new.reads }
         ensures loaded { self.new.loaded ≡ self.old.loaded }
         ensures looks { RisesAtMost self.old.looks self.new.looks
             (trace_looks self.old.state.volume q 2) }
@@ -145,7 +146,7 @@ impl LiveVolume {
     // The bytes of trace q, in one vector.
     fn trace_bytes(&mut self, room: &mut Room, q: u32) -> Result<Vec<u8>, Refusal>
         requires { IsTrue (is_trace self.old.state.volume q) }
-        ensures ok { IfOk result (λ bytes. IsTrue self.new.agreed →
+        ensures ok { IfOk result (λ bytes. HaveAgreed self.new.reads →
             bytes.items ≡ trace_at self.old.state.volume q) }
         ensures whole { IfOk result (λ bytes. IsTrace self.old.state.volume.head bytes.items) }
         ensures long { IfOk result (λ bytes.
@@ -164,12 +165,12 @@ impl LiveVolume {
     // refuses it.
     fn insert_copy(&mut self, room: &mut Room, q: u32, p: u32) -> Result<(), Refusal>
         requires { first_refusal self.old.state (edits.Copy q p) ≡ None }
-        ensures ok { OnOk result (IsTrue self.new.agreed →
+        ensures ok { OnOk result (HaveAgreed self.new.reads →
             IsAfter self.old.state (edits.Copy q p) self.new.state) }
         ensures err { IfErr result (λ refusal. IsOfMachine self.old.state.on_disk refusal ×
             (self.new.state ≡ self.old.state)) }
         ensures same { IsReadAs self.old.state self.new.state }
-        ensures agreed { IsTrue self.new.agreed → IsTrue self.old.agreed }
+        ensures reads { Follow self.old.reads self.new.reads }
         ensures loaded { self.new.loaded ≡ self.old.loaded }
         ensures looks { RisesAtMost self.old.looks self.new.looks 1 }
         ensures memory { Rises (IsErrOf result Refusal.OutOfMemory) room.old room.new }
@@ -181,11 +182,11 @@ impl LiveVolume {
 
     // Trace p out, or the refusal: E01.
     pub(crate) fn delete(&mut self, p: u32) -> Result<(), Refusal>
-        ensures step { IsTrue self.new.agreed →
+        ensures step { HaveAgreed self.new.reads →
             Step self.old.state (edits.Delete p) result self.new.state }
         ensures err { OnErr result (self.new.state ≡ self.old.state) }
         ensures same { IsReadAs self.old.state self.new.state }
-        ensures agreed { IsTrue self.new.agreed → IsTrue self.old.agreed }
+        ensures reads { Follow self.old.reads self.new.reads }
         ensures loaded { self.new.loaded ≡ self.old.loaded }
         ensures looks { self.new.looks ≡ self.old.looks }
         ensures other { IfErr result (λ refusal. refusal ≢ Refusal.OutOfMemory) }
@@ -204,10 +205,10 @@ impl LiveVolume {
         requires { first_refusal self.old.state (edits.Delete p) ≡ None }
         ensures state { self.new.state ≡ with_volume self.old.state
             (without self.old.state.volume p) }
-        ensures after { IsTrue self.new.agreed →
+        ensures after { HaveAgreed self.new.reads →
             IsAfter self.old.state (edits.Delete p) self.new.state }
         ensures same { IsReadAs self.old.state self.new.state }
-        ensures agreed { IsTrue self.new.agreed → IsTrue self.old.agreed }
+        ensures reads { Follow self.old.reads self.new.reads }
         ensures loaded { self.new.loaded ≡ self.old.loaded }
         ensures looks { self.new.looks ≡ self.old.looks }
     {
@@ -218,11 +219,11 @@ impl LiveVolume {
 
     // Trace a as trace b, or the first refusal: E01.
     pub(crate) fn move_trace(&mut self, room: &mut Room, a: u32, b: u32) -> Result<(), Refusal>
-        ensures step { IsTrue self.new.agreed →
+        ensures step { HaveAgreed self.new.reads →
             Step self.old.state (edits.Move a b) result self.new.state }
         ensures err { OnErr result (self.new.state ≡ self.old.state) }
         ensures same { IsReadAs self.old.state self.new.state }
-        ensures agreed { IsTrue self.new.agreed → IsTrue self.old.agreed }
+        ensures reads { Follow self.old.reads self.new.reads }
         ensures loaded { self.new.loaded ≡ self.old.loaded }
         ensures looks { self.new.looks ≡ self.old.looks }
         ensures memory { Rises (IsErrOf result Refusal.OutOfMemory) room.old room.new }
@@ -236,12 +237,12 @@ impl LiveVolume {
     // Trace a as trace b, where nothing but memory refuses it.
     fn put_elsewhere(&mut self, room: &mut Room, a: u32, b: u32) -> Result<(), Refusal>
         requires { first_refusal self.old.state (edits.Move a b) ≡ None }
-        ensures ok { OnOk result (IsTrue self.new.agreed →
+        ensures ok { OnOk result (HaveAgreed self.new.reads →
             IsAfter self.old.state (edits.Move a b) self.new.state) }
         ensures err { IfErr result (λ refusal. (refusal ≡ no_memory) ×
             (self.new.state ≡ self.old.state)) }
         ensures same { IsReadAs self.old.state self.new.state }
-        ensures agreed { IsTrue self.new.agreed → IsTrue self.old.agreed }
+        ensures reads { Follow self.old.reads self.new.reads }
         ensures loaded { self.new.loaded ≡ self.old.loaded }
         ensures looks { self.new.looks ≡ self.old.looks }
         ensures memory { Rises (IsErrOf result Refusal.OutOfMemory) room.old room.new }

@@ -8,3 +8,4 @@ mod NearLemmas
 mod BlockLemmas
 pub mod ExchangeLemmas
 pub mod SortedTraceLemmas
+mod ShownLemmas

@@ -1,10 +1,11 @@
 // The answer of the query for all that is wrong or doubtful.
-ghost use Rattle.std.specs.Prelude.{◌≡◌, ◌⊎◌, ◌++◌, ◌<◌, ◌^◌, Bool, List, [], length, map, IsTrue, IfErr, IfOk, OnOk, if◌then◌else◌, IsErrOf};
+ghost use Rattle.std.specs.Prelude.{◌≡◌, ◌⊎◌, ◌++◌, ◌<◌, ◌^◌, Bool, List, [], length, map, IfErr, IfOk, OnOk, if◌then◌else◌, IsErrOf};
 ghost use Rattle.room.specs.Refusals.{Rises};
 ghost use Rattle.trace_record.specs.Facts.{facts_of};
 ghost use Rattle.trace_record.specs.Packed.{record_in};
 ghost use Rattle.trace_view.specs.Values.{has_floats};
 ghost use Rattle.edit_overlay.specs.CountedVolume.{IsSeen};
+ghost use Rattle.edit_overlay.specs.Reads.{HaveAgreed};
 ghost use Rattle.fault_live.specs.FaultKeys.{keys_of_faults};
 ghost use Rattle.fault_live.specs.Faults.{faults_of};
 ghost use Rattle.fault_live.specs.OfFaults.{tally_of_faults};
@@ -61,7 +62,7 @@ pub fn problems_answer(
         (map facts_of (map record_in overlay.old.payloads))) }
     ensures reply { (s : State) → s.volume ≡ overlay.old.volume →
         s.fields ≡ fields.now.pairs → s.on_disk ≡ overlay.old.loaded.on_disk →
-        IsTrue overlay.new.agreed →
+        HaveAgreed overlay.new.reads →
         AreRecordsOf s (map record_in overlay.old.payloads) →
         IsReply s queries.Problems result }
     ensures seen { IsSeen overlay.old overlay.new (count_of overlay.old.volume) }
@@ -127,7 +128,7 @@ fn late_traces(
     room: &mut Room,
     overlay: &mut Overlay<PackedRecord>,
 ) -> Result<Vec<ProblemLine>, AskFault>
-    ensures ok { IfOk result (λ lines. IsTrue overlay.new.agreed →
+    ensures ok { IfOk result (λ lines. HaveAgreed overlay.new.reads →
         lines.items ≡ late_of (delays_of overlay.old.volume)) }
     ensures err { IfErr result (λ fault. (fault ≡ no_memory) ⊎
         (IsReadFault overlay.old.loaded.on_disk fault × (0 < count_of overlay.old.volume))) }

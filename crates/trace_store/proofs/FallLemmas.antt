@@ -1,8 +1,10 @@
 -- A store whose loaded bytes have been read again: they stand as before, or have fallen.
 use Rattle.std.proofs.Common.{◌≡◌, ℕ, List, length, refl, sym, ap, subst, arith, Option, Some, None}
-use Rattle.std.specs.Prelude.{IsSomeAnd}
+use Rattle.std.specs.Prelude.{IsSomeAnd, IfErr, Result, Ok, Err}
 use Rattle.slab.specs.Slab.{Slab, get}
-use Rattle.base_file.specs.HeldBytes.{HeldBytes, IsStill}
+use Rattle.base_file.specs.HeldBytes.{HeldBytes, IsStill, IsSure}
+use Rattle.base_file.specs.declared.read_fault.ReadFault.{ReadFault}
+use Rattle.base_file.specs.declared.read_fault.ReadFault.TheVariants.{ReadFailed, Changed, TooLarge}
 use Rattle.base_file.proofs.HeldLemmas.{sure_before}
 use Rattle.frame_cut.specs.declared.file_head.Head.{Head}
 use Rattle.frame_cut.specs.Cuts.{IsTrace}
@@ -12,8 +14,16 @@ use Rattle.trace_store.specs.declared.prepared.Prepared.{Prepared}
 use Rattle.trace_store.specs.declared.slot.Slot.{Slot}
 use Rattle.trace_store.specs.declared.store.TraceStore.{TraceStore}
 use Rattle.trace_store.specs.Ahead.{IsReady}
+use Rattle.trace_store.specs.Faults.{IsFaultIf, IsFaultOfLook}
 use Rattle.trace_store.specs.Slots.{base_of, bytes_in, AreHeld, IsHeldUnder, IsInside, IsSlot, IsStore}
 use Rattle.trace_store.proofs.AheadLemmas.{IsSame, ready_kept}
+
+-- a look at a trace that is whole, if the bytes are sure, was refused where a read failed, or they are not sure
+pub look_fault : {T Whole : Type 0} (result : Result T ReadFault) (before now : HeldBytes) → (IsSure now.standing → Whole) → IfErr result (IsFaultIf Whole before now) → IfErr result (IsFaultOfLook before now)
+look_fault (Ok x) before now whole fault = tt
+look_fault (Err ReadFailed) before now whole fault = fault
+look_fault (Err TooLarge) before now whole fault = fault
+look_fault (Err Changed) before now whole fault = λ sure. fault sure (whole sure)
 
 module _ {T : Type 0} where
   -- a slot lies over them as before

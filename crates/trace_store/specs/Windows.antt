@@ -3,9 +3,11 @@ use Rattle.std.specs.Prelude.{ℕ, ◌≡◌, ◌≤◌, ◌⊎◌, List, length
 use Rattle.frame_cut.specs.declared.load_fault.LoadFault.{LoadFault}
 use Rattle.frame_cut.specs.declared.load_fault.LoadFault.TheVariants.{ReadFailed, OutOfMemory}
 
--- the bytes of a window
+-- the bytes of a window, how many that were taken stand in front of them still, and for how many more there is room behind them
 pub record WindowBytes : Type 0 where
   pub bytes : List ℕ
+  pub gone : ℕ
+  pub room : ℕ
 
 -- the bytes that were read from this place on
 pub record IsNextOf (read : List ℕ) (at : ℕ) (next : List ℕ) : Type 0 where

@@ -1,3 +1,4 @@
 mod LetterLemmas
 pub mod StanzaLemmas
 mod RoomLemmas
+mod TellLemmas

@@ -4,10 +4,11 @@ ghost use Rattle.sample_codes.specs.Formats.{width};
 ghost use Rattle.frame_cut.specs.Traces.{is_trace, trace_at};
 ghost use Rattle.trace_view.specs.Values.{samples_at};
 ghost use Rattle.edit_overlay.specs.CountedVolume.{IsSeen};
+ghost use Rattle.edit_overlay.specs.Reads.{HaveAgreed};
 ghost use Rattle.bench_rules.specs.declared.edit.Edit.TheVariants as edits;
 ghost use Rattle.bench_rules.specs.declared.field.Field.TheVariants as fields;
 ghost use Rattle.bench_rules.specs.Looks.{trace_looks};
-ghost use Rattle.bench_rules.specs.ReadFaults.{IsReadRefusal};
+ghost use Rattle.bench_rules.specs.ReadFaults.{IsReadRefusal, IsRefusalOfReads};
 ghost use Rattle.bench_rules.specs.Refused.{first_refusal, no_trace as no_trace_in, no_place_for_trace as no_place_in, room_refusal as no_room_in, insert_refusal as not_in};
 ghost use Rattle.bench_rules.specs.State.{State};
 ghost use Rattle.volume_answers.specs.Rooms.{HasRoom, HasSampleRoom};
@@ -27,7 +28,7 @@ pub fn value_refusal(
     value: i128,
 ) -> Result<Option<Refusal>, ReadFault>
     ensures refusal { IfOk result (λ refusal. (s : State) → s.volume ≡ overlay.old.volume →
-        IsTrue overlay.new.agreed →
+        HaveAgreed overlay.new.reads →
         refusal ≡ first_refusal s (edits.Set p (fields.Place place) value)) }
     ensures room { IfOk result (λ refusal. refusal ≡ None →
         HasRoom overlay.old.volume p place value) }
@@ -53,15 +54,16 @@ pub fn patch_place(
     values: &[i128],
 ) -> Result<u64, Refusal>
     ensures ok { OnOk result ((s : State) → s.volume ≡ overlay.old.volume →
-        IsTrue overlay.new.agreed → first_refusal s (edits.Patch p k values.now) ≡ None) }
-    ensures place { IfOk result (λ at. IsTrue overlay.new.agreed → at ≡ samples_at
+        HaveAgreed overlay.new.reads → first_refusal s (edits.Patch p k values.now) ≡ None) }
+    ensures place { IfOk result (λ at. HaveAgreed overlay.new.reads → at ≡ samples_at
         overlay.old.volume.head (trace_at overlay.old.volume p)
         + width overlay.old.volume.head.format * k) }
     ensures room { IfOk result (λ at. HasSampleRoom overlay.old.volume p at values.now) }
     ensures err { IfErr result (λ refusal. (IsTrue (is_trace overlay.old.volume p) ×
         IsReadRefusal overlay.old.loaded.on_disk refusal) ⊎
-        ((s : State) → s.volume ≡ overlay.old.volume → IsTrue overlay.new.agreed →
+        ((s : State) → s.volume ≡ overlay.old.volume → HaveAgreed overlay.new.reads →
         first_refusal s (edits.Patch p k values.now) ≡ Some refusal)) }
+    ensures reads_tell { IfErr result (IsRefusalOfReads overlay.old.reads overlay.new.reads) }
     ensures there { OnOk result (IsTrue (is_trace overlay.old.volume p)) }
     ensures seen { IsSeen overlay.old overlay.new (trace_looks overlay.old.volume p 1) }
     ensures other { IfErr result (λ refusal. refusal ≢ Refusal.OutOfMemory) }

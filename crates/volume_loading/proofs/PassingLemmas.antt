@@ -1,15 +1,16 @@
 -- What holds of a file between the calls that pass it.
-use Rattle.std.proofs.Common.{◌≡◌, ℕ, zero, suc, ◌+◌, ◌*◌, ◌-◌, ◌<◌, ◌≤◌, ◌⊎◌, List, [], ◌∷◌, ◌++◌, length, take, drop, get_or, refl, sym, ap, ◌∙◌, subst, arith, inl, inr, All, Result, Ok, true}
+use Rattle.std.proofs.Common.{◌≡◌, ℕ, zero, suc, ◌+◌, ◌*◌, ◌-◌, ◌<◌, ◌≤◌, ◌⊎◌, List, [], ◌∷◌, ◌++◌, length, take, drop, get_or, refl, sym, ap, ◌∙◌, subst, arith, inl, inr, All, Bool, Result, Ok, true}
 use Rattle.std.proofs.lemmas.List.{drop-drop, get_or_push, length-drop, length-map, length_push, length-take, length-take-le, map-append, take-take}
 use Rattle.std.proofs.lemmas.List.Elements.{All-get_or, All-nil}
 use Rattle.std.proofs.lemmas.List.Edits.{insert_end}
 use Rattle.std.specs.List.{insert}
-use Rattle.base_file.specs.HeldBytes.{HeldBytes, OnDisk}
+use Rattle.base_file.specs.HeldBytes.{HeldBytes, Standing, OnDisk, IsInMemory}
 use Rattle.frame_cut.specs.declared.extent.Extent.{Extent}
 use Rattle.frame_cut.specs.declared.file_head.Head.{Head}
 use Rattle.frame_cut.specs.declared.limits.Limits.{Limits}
 use Rattle.frame_cut.specs.declared.reading.Reading.{Reading}
 use Rattle.frame_cut.specs.declared.load_fault.LoadFault.{LoadFault}
+use Rattle.frame_cut.specs.declared.load_fault.LoadFault.TheVariants.{ReadFailed}
 use Rattle.frame_cut.specs.Cuts.{IsCut, IsTail, IsTrace, trace_refusal}
 use Rattle.frame_cut.specs.Fronts.{BeginsWith}
 use Rattle.frame_cut.specs.Layout.{bytes_at, pieces, tail_at, volume_at, AreTracesOf}
@@ -23,9 +24,9 @@ use Rattle.trace_store.specs.Stores.{traces_of}
 use Rattle.trace_store.specs.Windows.{IsFaultOfPass, IsNextOf, WindowBytes}
 use Rattle.trace_store.proofs.GrownLemmas.{slice_grown}
 use Rattle.edit_overlay.specs.Held.{volume_with}
-use Rattle.volume_loading.specs.PassedFile.{IsPassFault}
+use Rattle.volume_loading.specs.PassedFile.{IsGivenUp, IsPassFault}
 use Rattle.volume_loading.specs.Passing.{IsPassing, IsWalked}
-use Rattle.volume_loading.specs.PassReads.{HasLengthAt, IsHeadFault, IsHeadOf, IsTraceFault}
+use Rattle.volume_loading.specs.PassReads.{HasLengthAt, IsFaultOfHold, IsHeadFault, IsHeadOf, IsTraceFault}
 use Rattle.volume_loading.specs.declared.passing.Passing.TheInside.{Inside}
 use Rattle.volume_loading.proofs.PassLemmas.{begins_less, some_file}
 
@@ -65,12 +66,29 @@ insert_last ts n t is =
     let place : n + 1 - 1 ≡ length ts = omega (arith, is) in
     ap (λ (i : ℕ). insert ts i t) place ∙ insert_end ts t
 
+-- ---- what was not read
+
+-- a window that was not filled
+pub hold_fault : (size : ℕ) (before now : HeldBytes) (n w : ℕ) (fault : LoadFault) → IsFaultOfPass fault → (fault ≡ ReadFailed → ¬ IsInMemory before.standing → n ≤ w + (size - length before.bytes) → before.failures < now.failures)
+    → now.standing ≡ before.standing → n ≤ w + (size - length before.bytes) → IsFaultOfHold size now fault
+hold_fault size before now n w fault (inl failed) told standing fits =
+    inl (failed, λ disk. let rose : before.failures < now.failures = told failed (λ inside. disk (subst IsInMemory (sym standing) inside)) fits in inl (omega (arith, rose)))
+hold_fault size before now n w fault (inr memory) told standing fits = inr memory
+
+-- of a file on disk the pass gives up
+pub given_up : (held : HeldBytes) (size : ℕ) (fault : LoadFault) → ¬ IsInMemory held.standing → IsFaultOfHold size held fault → IsGivenUp size held.bytes held.failures fault
+given_up held size fault disk (inl failed) = inl (failed.0, failed.1 disk)
+given_up held size fault disk (inr memory) = inr memory
+
+-- a file that is passed is on disk
+pub on_disk : (standing : Standing) (agreed : Bool) → standing ≡ OnDisk agreed → ¬ IsInMemory standing
+on_disk standing agreed is inside = subst IsInMemory is inside
+
 -- ---- the head
 
-pub head_fault : (read : List ℕ) (size : ℕ) (reading : Reading) (limits : Limits) (fault : LoadFault) → length read ≤ size → IsFaultOfPass fault ⊎ IsHeadFault read size reading limits fault → IsPassFault size reading limits read fault
-head_fault read size reading limits fault within (inl (inl failed)) = inl failed
-head_fault read size reading limits fault within (inl (inr memory)) = inr (inl memory)
-head_fault read size reading limits fault within (inr told) = inr (inr (within, λ file begun. inl (told file begun)))
+pub head_fault : (held : HeldBytes) (size : ℕ) (reading : Reading) (limits : Limits) (fault : LoadFault) → ¬ IsInMemory held.standing → length held.bytes ≤ size → IsFaultOfHold size held fault ⊎ IsHeadFault held.bytes size reading limits fault → IsPassFault size reading limits held.bytes held.failures fault
+head_fault held size reading limits fault disk within (inl given) = inl (given_up held size fault disk given)
+head_fault held size reading limits fault disk within (inr told) = inr (within, λ file begun. inl (told file begun))
 
 -- a head has room for what it names
 pub head_room : (read : List ℕ) (size : ℕ) (reading : Reading) (limits : Limits) (h : Head) → length read ≤ size → IsHeadOf read size reading limits h → (h.traces_at + 3200 * h.trailer ≤ size) × (3600 ≤ h.traces_at)
@@ -138,10 +156,9 @@ module _ {T : Type 0} where
   number_of file s es is = ap length is ∙ length-map es (bytes_at file)
 
   pub trace_fault : (p : Inside T) (s : TraceStore T) (fault : LoadFault) → IsPassing p → HasMore p.store s → length s.loaded.bytes ≤ p.size → p.at + 3200 * p.store.head.trailer < p.size
-      → IsFaultOfPass fault ⊎ IsTraceFault s.loaded.bytes p.size p.reading p.store.head p.limits (length (traces_of p.store) + 1) p.at fault → IsPassFault p.size p.reading p.limits s.loaded.bytes fault
-  trace_fault p s fault passing more within some (inl (inl failed)) = inl failed
-  trace_fault p s fault passing more within some (inl (inr memory)) = inr (inl memory)
-  trace_fault p s fault passing more within some (inr told) = inr (inr (
+      → IsFaultOfHold p.size s.loaded fault ⊎ IsTraceFault s.loaded.bytes p.size p.reading p.store.head p.limits (length (traces_of p.store) + 1) p.at fault → IsPassFault p.size p.reading p.limits s.loaded.bytes s.loaded.failures fault
+  trace_fault p s fault passing more within some (inl given) = inl (given_up s.loaded p.size fault (on_disk s.loaded.standing true (more.loaded.standing ∙ passing.standing)) given)
+  trace_fault p s fault passing more within some (inr told) = inr (
     within,
     λ file begun.
         let w = passing.walked file (begins_less p.store.loaded.bytes s.loaded.bytes p.size file more.loaded.begins begun) in
@@ -152,7 +169,7 @@ module _ {T : Type 0} where
           unkept = (told file begun).1;
           refused = ap (λ (i : ℕ). trace_refusal h p.limits (i + 1) (left_at file h p.at)) (sym (number_of file p.store passing.extents w.traces)) ∙ (told file begun).0;
         }),
-  ))
+  )
 
   -- ---- the trace that is shown
 

@@ -1,14 +1,21 @@
 -- What the bytes that were read of a file of so many bytes tell of each file which begins with them.
-use Rattle.std.specs.Prelude.{ℕ, ◌≡◌, ◌&&◌, IsFalse, List, Some, None, Ok, Err}
+use Rattle.std.specs.Prelude.{ℕ, ◌≡◌, ◌⊎◌, ◌&&◌, IsFalse, List, Some, None, Ok, Err}
+use Rattle.base_file.specs.HeldBytes.{HeldBytes, IsInMemory}
 use Rattle.frame_cut.specs.declared.file_head.Head.{Head}
 use Rattle.frame_cut.specs.declared.limits.Limits.{Limits}
 use Rattle.frame_cut.specs.declared.reading.Reading.{Reading}
 use Rattle.frame_cut.specs.declared.load_fault.LoadFault.{LoadFault}
+use Rattle.frame_cut.specs.declared.load_fault.LoadFault.TheVariants.{ReadFailed, OutOfMemory}
 use Rattle.frame_cut.specs.Cuts.{is_torn, trace_refusal}
 use Rattle.frame_cut.specs.Frames.{trace_length}
 use Rattle.frame_cut.specs.Fronts.{BeginsWith}
 use Rattle.frame_cut.specs.Heads.{head_of}
 use Rattle.frame_cut.specs.Walk.{left_at}
+use Rattle.volume_loading.specs.PassedFile.{CannotGoOn}
+
+-- the bytes that follow were not read for this reason: memory was refused; or the pass cannot go on, of a file on disk
+abbrev pub IsFaultOfHold : (size : ℕ) → HeldBytes → LoadFault → Type 0
+IsFaultOfHold size held fault = ((fault ≡ ReadFailed) × (¬ IsInMemory held.standing → CannotGoOn size held.bytes held.failures)) ⊎ (fault ≡ OutOfMemory)
 
 -- its head
 abbrev pub IsHeadOf : List ℕ → ℕ → Reading → Limits → Head → Type 0

@@ -32,6 +32,7 @@ passed_of p = record {
   shown = take p.next p.window.bytes;
   tail = p.tail;
   looks = p.looks;
+  failures = p.store.loaded.failures;
 }
 
 -- the store has this head of the file, and its traces up to a place

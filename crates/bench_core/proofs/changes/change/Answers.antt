@@ -7,7 +7,7 @@ returns-in_err-apply-in_default c = record {
       c.from_residual-in_err-apply-in_default.ensures.1 (c.in_err-apply-in_default.ensures.step sure);
   err = on_err _ c.from_residual-in_err-apply-in_default.result c.from_residual-in_err-apply-in_default.ensures.1 c.in_err-apply-in_default.ensures.err;
   same = c.in_err-apply-in_default.ensures.same;
-  agreed = c.in_err-apply-in_default.ensures.agreed;
+  reads = c.in_err-apply-in_default.ensures.reads;
   loaded = c.in_err-apply-in_default.ensures.loaded;
   looks = c.in_err-apply-in_default.ensures.looks;
   moved = none_told _ _ c.from_residual-in_err-apply-in_default.result c.from_residual-in_err-apply-in_default.ensures.1;

@@ -45,7 +45,7 @@ loop-k-preserved c =
           let same : amplitudes_beside c.loop-k.overlay.payloads p ≡ amplitudes_at v.head (trace_at v p) =
           ap (λ (ps : List PackedRecord). amplitudes_beside ps p) i.seen.payloads ∙ amplitudes_there c.args.overlay.now fields beside p there in
           go_on v c.args.tests.now c.args.a c.args.b c.loop-k.k c.in-Some.is_chosen c.loop-k.traces.items c.keep.new.traces.items (omega (arith, c.loop-k-test.true, c.requires.range))
-          (said ∙ enough ∙ ap (λ (all : Option Amplitudes). meets_by v.head (trace_at v p) all c.args.tests.now) same) kept (i.chosen fields (made.seen.agreed sure) beside);
+          (said ∙ enough ∙ ap (λ (all : Option Amplitudes). meets_by v.head (trace_at v p) all c.args.tests.now) same) kept (i.chosen fields (made.seen.reads.agreed sure) beside);
       rising = still_rise c.args.a c.loop-k.k c.in-Some.is_chosen c.loop-k.traces.items c.keep.new.traces.items c.requires.first kept i.rising;
       seen = seen_after c.args.overlay.now c.loop-k.overlay c.judged.new.overlay c.loop-k.k 1 i.seen made.seen;
       memory = grind arith;

@@ -47,4 +47,4 @@ returns-in_err-write_piece-clause-saved g c =
 pub returns-in_err-write_piece-clause-read : goal.returns-in_err-write_piece-clause-read
 returns-in_err-write_piece-clause-read g c =
     let p = err_from_is_err_and c.from_residual.result c.from_residual.ensures.1 in
-    read_refused c.from_residual.result c.in_err-write_piece.field-0.0 c.args.store.now.loaded.standing c.pieces.store.loaded.standing (rw p.2 at p.1) c.pieces.invariant.same.loaded.standing c.in_err-write_piece.ensures.read
+    read_refused c.from_residual.result c.in_err-write_piece.field-0.0 c.args.store.now.loaded c.pieces.store.loaded c.write_piece.new.store.loaded (rw p.2 at p.1) c.pieces.invariant.same.loaded c.in_err-write_piece.ensures.read

@@ -103,7 +103,7 @@ returns-in_err-write_trace-clause-saved g c =
 pub returns-in_err-write_trace-clause-read : goal.returns-in_err-write_trace-clause-read
 returns-in_err-write_trace-clause-read g c =
     let p = err_from_is_err_and c.from_residual.result c.from_residual.ensures.1 in
-    read_refused c.from_residual.result c.in_err-write_trace.field-0.0 c.args.store.now.loaded.standing c.loop-at.store.loaded.standing (rw p.2 at p.1) c.loop-at.invariant.same.loaded.standing c.in_err-write_trace.ensures.read
+    read_refused c.from_residual.result c.in_err-write_trace.field-0.0 c.args.store.now.loaded c.loop-at.store.loaded c.write_trace.new.store.loaded (rw p.2 at p.1) c.loop-at.invariant.same.loaded c.in_err-write_trace.ensures.read
 
 pub returns-clause-count : goal.returns-clause-count
 returns-clause-count g c =

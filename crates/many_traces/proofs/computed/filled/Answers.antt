@@ -20,7 +20,7 @@ pub returns-in-Err-clause-err : goal.returns-in-Err-clause-err
 returns-in-Err-clause-err c =
     let i = c.loop-k.invariant in
     let f : Formula = record { place = c.args.place; source = c.args.source; steps = c.args.steps.now } in
-    refused_or_read c.args.overlay.now.volume f c.args.a c.args.b c.loop-k.k c.in-Err.refusal (rw (i.seen.volume, i.seen.loaded) at c.in-Err.ensures.err) (λ sure. (i.far (c.number_at.ensures.seen.agreed sure)).none) (omega (arith, c.loop-k-test.true, c.requires.range))
+    refused_or_read c.args.overlay.now.volume f c.args.a c.args.b c.loop-k.k c.in-Err.refusal (rw (i.seen.volume, i.seen.loaded) at c.in-Err.ensures.err) (λ sure. (i.far (c.number_at.ensures.seen.reads.agreed sure)).none) (omega (arith, c.loop-k-test.true, c.requires.range))
 
 pub loop-k-preserved : goal.loop-k-preserved
 loop-k-preserved c =
@@ -36,7 +36,7 @@ loop-k-preserved c =
       far = λ sure.
           let none = rw (i.seen.volume) at (made.none sure) in
           let number = rw (i.seen.volume) at (made.number sure) in
-          one_more v f c.args.a c.loop-k.k c.in-Ok.number c.loop-k.bytes.items c.push_number.new.bytes.items (i.far (made.seen.agreed sure)) none number joined;
+          one_more v f c.args.a c.loop-k.k c.in-Ok.number c.loop-k.bytes.items c.push_number.new.bytes.items (i.far (made.seen.reads.agreed sure)) none number joined;
       count = omega (arith, step, i.count, c.push_number.ensures.count);
       each =
           let here = rw (i.seen.volume) at made.place in

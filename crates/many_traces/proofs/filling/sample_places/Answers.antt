@@ -20,7 +20,7 @@ returns-in-Err-clause-err c =
     let v : Volume = c.args.overlay.now.volume in
     let told = rw (c.in-Err.is) at c.in_ok-place.ensures.refused in
     inr (inr (λ sure.
-    here_listed (λ p. samples_refusal v.head c.args.first c.args.last (trace_at v p)) c.args.traces.now c.loop-k.k c.in-Err.refusal c.loop-k-test.true (i.none (c.place_at.ensures.seen.agreed sure)) (rw (i.seen.volume) at (told sure))))
+    here_listed (λ p. samples_refusal v.head c.args.first c.args.last (trace_at v p)) c.args.traces.now c.loop-k.k c.in-Err.refusal c.loop-k-test.true (i.none (c.place_at.ensures.seen.reads.agreed sure)) (rw (i.seen.volume) at (told sure))))
 
 pub loop-k-preserved : goal.loop-k-preserved
 loop-k-preserved c =
@@ -39,10 +39,10 @@ loop-k-preserved c =
     λ j less. sym (ap (λ (l : List ℕ). get_or l j 0) items ∙ place-before old c.in-Ok.place j (omega (arith, less, i.count))) in
     record {
       none = λ sure.
-          below_more (λ (j : ℕ). samples_refusal v.head c.args.first c.args.last (trace_at v (get_or ts j 0)) ≡ None) k (i.none (made.seen.agreed sure)) (rw (i.seen.volume) at (free sure));
+          below_more (λ (j : ℕ). samples_refusal v.head c.args.first c.args.last (trace_at v (get_or ts j 0)) ≡ None) k (i.none (made.seen.reads.agreed sure)) (rw (i.seen.volume) at (free sure));
       places = λ sure.
           below_more (λ (j : ℕ). get_or c.push.new.self.items j 0 ≡ samples_at v.head (trace_at v (get_or ts j 0)) + width v.head.format * c.args.first) k
-          (λ j less. sym (before j less) ∙ i.places (made.seen.agreed sure) j less) (here ∙ (rw (i.seen.volume) at (place sure)));
+          (λ j less. sym (before j less) ∙ i.places (made.seen.reads.agreed sure) j less) (here ∙ (rw (i.seen.volume) at (place sure)));
       count = omega (arith, ap (λ (l : List ℕ). length l) items, length-append old (c.in-Ok.place ∷ []), i.count);
       room =
           below_more (λ (j : ℕ). get_or c.push.new.self.items j 0 + width v.head.format * (c.args.last + 1 - c.args.first) ≤ length (trace_at v (get_or ts j 0))) k

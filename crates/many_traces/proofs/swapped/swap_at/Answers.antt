@@ -10,7 +10,7 @@ use Rattle.many_traces.proofs.swapped.swap_at.Goals as goal
 pub returns-clause-seen : goal.returns-clause-seen
 returns-clause-seen c =
     let seen = rw (c.in_ok-trace.was, c.in-Some.is) at c.look.follows.holds-at-none in
-    seen_more c.args.overlay.now c.args.overlay.now c.look.follows.lender-at-none 0 (seen_none c.args.overlay.now) seen.looked seen.agreed
+    seen_more c.args.overlay.now c.args.overlay.now c.look.follows.lender-at-none 0 (seen_none c.args.overlay.now) seen.looked seen.reads
 
 not_told : (o : Option Refusal) → (o ≡ Some OutOfMemory → ⊥) → IfSome o (λ r. r ≢ OutOfMemory)
 not_told None never = tt

@@ -4,6 +4,7 @@ use Rattle.frame_cut.specs.Frames.{sample_count}
 use Rattle.trace_view.specs.Shown.{bytes_of, head_of}
 use Rattle.bench_rules.proofs.EditMemoryLemmas.{values_memory}
 use Rattle.volume_answers.proofs.RoomLemmas.{sample_room}
+use Rattle.volume_answers.proofs.TellLemmas.{values_tell}
 use Rattle.volume_answers.proofs.refusals.patch_place.Goals as goal
 
 few : (count n : ℕ) → n ≡ count → n < 2 ^ 32 → count < 2 ^ 32
@@ -22,3 +23,8 @@ pub returns-in-Some-patch_refusal-clause-other : goal.returns-in-Some-patch_refu
 returns-in-Some-patch_refusal-clause-other c = λ e.
     let view = c.in-Some.trace in
     values_memory (values (head_of view).format) (head_of view) (bytes_of view) c.args.k c.args.values.now (sym c.patch_refusal.ensures ∙ c.in-Some-patch_refusal.is ∙ ap Some e)
+
+pub returns-in-Some-patch_refusal-clause-reads_tell : goal.returns-in-Some-patch_refusal-clause-reads_tell
+returns-in-Some-patch_refusal-clause-reads_tell c =
+    let view = c.in-Some.trace in
+    values_tell (values (head_of view).format) (head_of view) (bytes_of view) c.args.k c.args.values.now c.in-Some-patch_refusal.refusal c.args.overlay.now.reads c.look.follows.lender-at-none.reads (sym c.patch_refusal.ensures ∙ c.in-Some-patch_refusal.is)

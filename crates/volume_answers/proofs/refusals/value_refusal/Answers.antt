@@ -38,7 +38,7 @@ returns-clause-seen c =
     let o = c.args.overlay.now in
     let there = rw c.in-Some.is at c.in_ok-trace.ensures.there in
     let seen = rw (c.in_ok-trace.was, c.in-Some.is) at c.look.follows.holds-at-none in
-    rw (there.0 refl) (seen_more o o c.look.follows.lender-at-none 0 (seen_none o) seen.looked seen.agreed)
+    rw (there.0 refl) (seen_more o o c.look.follows.lender-at-none 0 (seen_none o) seen.looked seen.reads)
 
 pub returns-clause-other : goal.returns-clause-other
 returns-clause-other c =

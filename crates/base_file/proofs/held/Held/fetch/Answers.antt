@@ -6,8 +6,8 @@ use Rattle.base_file.specs.Rooms.{read_last}
 use Rattle.base_file.proofs.RoomLemmas.{lent_if}
 use Rattle.base_file.proofs.held.Held.fetch.Goals as goal
 
-pub returns-in-Disk-clause-bytes : goal.returns-in-Disk-clause-bytes
-returns-in-Disk-clause-bytes c =
+pub returns-in-Disk-2-clause-bytes : goal.returns-in-Disk-2-clause-bytes
+returns-in-Disk-2-clause-bytes c =
     let d = c.fetch.new.base in
     let r = c.fetch.new.self in
     let same : bytes_of d ≡ c.args.self.now.bytes =

@@ -8,7 +8,7 @@ returns c =
     rw (← c.self.view_is) (record {
       reply = c.ask.ensures.reply;
       unchanged = c.ask.ensures.unchanged;
-      agreed = c.ask.ensures.agreed;
+      reads = c.ask.ensures.reads;
       loaded = c.ask.ensures.loaded;
       looks = rw (other.0 c.self.inside.volume.state _) c.ask.ensures.looks;
       kept = sym (same_kept c.ask.result (other.1 _));

@@ -56,7 +56,7 @@ returns-clause-step c =
     let there : Some p ≡ place_in_trace mid.fields c.args.field.now = subst (λ (s : State). Some p ≡ place_in_trace s.fields c.args.field.now) (sym c.values_refusal.ensures.seen.state) (place c) in
     λ sure.
     stepped_unless (is_told old.fields p) old mid new (Renumber c.args.a c.args.b c.args.field.now c.args.first c.args.step) c.count_up.result
-    (renumber_first old c.args.a c.args.b c.args.field.now p c.args.first c.args.step (range c) (place c) ∙ sym (told (c.count_up.ensures.agreed sure)) ∙ c.in_default-2.is) c.values_refusal.ensures.seen.state (record {})
+    (renumber_first old c.args.a c.args.b c.args.field.now p c.args.first c.args.step (range c) (place c) ∙ sym (told (c.count_up.ensures.reads.agreed sure)) ∙ c.in_default-2.is) c.values_refusal.ensures.seen.state (record {})
     (renumber_looks old c.args.a c.args.b c.args.field.now p c.args.first c.args.step (range c) (place c))
     (on_ok c.count_up.result (λ f. renumber_same mid new c.args.a c.args.b c.args.field.now p c.args.first c.args.step there (f sure)) done) c.count_up.ensures.err
     (λ is. (c.count_up.ensures.told (tells c (both _ _ is).1)).1)

@@ -1,7 +1,8 @@
-use Rattle.std.proofs.Common.{◌≡◌, ◌∙◌, IsTrue, None, sym, ap, subst, refl, rules, arith, List, ℕ}
+use Rattle.std.proofs.Common.{◌≡◌, ◌∙◌, None, sym, ap, subst, refl, rules, arith, List, ℕ}
 use Rattle.std.specs.Prelude.{nat_abs, IfErr, OnErr}
 use Rattle.std.proofs.lemmas.Int.{to_z-of_z}
 use Rattle.std.specs.Int.{w128}
+use Rattle.edit_overlay.specs.Reads.{Follow, HaveAgreed}
 use mir.Val.{SFits}
 use Rattle.room.proofs.RiseLemmas.{risen}
 use Rattle.field_map.specs.Pairs.{Pairs}
@@ -44,12 +45,12 @@ replace-requires-clause-cut c =
     let s = state_of c.self.inside in
     let fit : SFits w128 c.args.count = search rules in
     let st : c.resized_bytes.new.self.state ≡ s = c.resized_bytes.ensures.seen.state ∙ sym (ap (λ (x : Session). x.state) c.self.view_is) in
-    let none : IsTrue c.resized_bytes.new.self.agreed → first_refusal s (Resize c.args.p c.args.count) ≡ None = rw (← c.self.view_is, to_z-of_z) at c.in_ok-bytes.ensures.none in
-    let made : IsTrue c.resized_bytes.new.self.agreed → c.in_ok-bytes.bytes.items ≡ resized s.volume.head (trace_at s.volume c.args.p) (nat_abs c.args.count) = rw (← c.self.view_is, to_z-of_z) at c.in_ok-bytes.ensures.bytes in
-    let before : IsTrue c.resized_bytes.new.self.agreed → IsTrue c.self.inside.overlay.agreed = rw (← c.self.view_is) at c.resized_bytes.ensures.seen.agreed in
+    let none : HaveAgreed c.resized_bytes.new.self.reads → first_refusal s (Resize c.args.p c.args.count) ≡ None = rw (← c.self.view_is, to_z-of_z) at c.in_ok-bytes.ensures.none in
+    let made : HaveAgreed c.resized_bytes.new.self.reads → c.in_ok-bytes.bytes.items ≡ resized s.volume.head (trace_at s.volume c.args.p) (nat_abs c.args.count) = rw (← c.self.view_is, to_z-of_z) at c.in_ok-bytes.ensures.bytes in
+    let before : Follow c.self.inside.overlay.reads c.resized_bytes.new.self.reads = rw (← c.self.view_is) at c.resized_bytes.ensures.seen.reads in
     let w : Volume = with_trace s.volume c.args.p c.in_ok-bytes.bytes.items in
     λ sure. subst (λ (u : State). IsCutAs u (with_trace u.volume c.args.p c.in_ok-bytes.bytes.items)) (sym st)
-    (after_cut s (Resize c.args.p c.args.count) w (resize_done s c.args.p c.args.count w c.in_ok-bytes.bytes.items (c.self.invariant.cut (before sure)) (none sure) (made sure) refl))
+    (after_cut s (Resize c.args.p c.args.count) w (resize_done s c.args.p c.args.count w c.in_ok-bytes.bytes.items (c.self.invariant.cut (before.agreed sure)) (none sure) (made sure) refl))
 
 pub replace-requires-clause-record : goal.replace-requires-clause-record
 replace-requires-clause-record c =
@@ -74,13 +75,13 @@ returns-clause-step c =
     let s = state_of c.self.inside in
     let fit : SFits w128 c.args.count = search rules in
     let st : c.resized_bytes.new.self.state ≡ s = c.resized_bytes.ensures.seen.state ∙ sym (ap (λ (x : Session). x.state) c.self.view_is) in
-    let none : IsTrue c.resized_bytes.new.self.agreed → first_refusal s (Resize c.args.p c.args.count) ≡ None = rw (← c.self.view_is, to_z-of_z) at c.in_ok-bytes.ensures.none in
-    let made : IsTrue c.resized_bytes.new.self.agreed → c.in_ok-bytes.bytes.items ≡ resized s.volume.head (trace_at s.volume c.args.p) (nat_abs c.args.count) = rw (← c.self.view_is, to_z-of_z) at c.in_ok-bytes.ensures.bytes in
-    let before : IsTrue c.resized_bytes.new.self.agreed → IsTrue c.self.inside.overlay.agreed = rw (← c.self.view_is) at c.resized_bytes.ensures.seen.agreed in
+    let none : HaveAgreed c.resized_bytes.new.self.reads → first_refusal s (Resize c.args.p c.args.count) ≡ None = rw (← c.self.view_is, to_z-of_z) at c.in_ok-bytes.ensures.none in
+    let made : HaveAgreed c.resized_bytes.new.self.reads → c.in_ok-bytes.bytes.items ≡ resized s.volume.head (trace_at s.volume c.args.p) (nat_abs c.args.count) = rw (← c.self.view_is, to_z-of_z) at c.in_ok-bytes.ensures.bytes in
+    let before : Follow c.self.inside.overlay.reads c.resized_bytes.new.self.reads = rw (← c.self.view_is) at c.resized_bytes.ensures.seen.reads in
     let w : Volume = with_trace s.volume c.args.p c.in_ok-bytes.bytes.items in
     rw (← c.self.view_is) (λ sure.
-    let mid = c.replace.ensures.agreed sure in
-    let done = resize_done s c.args.p c.args.count w c.in_ok-bytes.bytes.items (c.self.invariant.cut (before mid)) (none mid) (made mid) refl in
+    let mid = c.replace.ensures.reads.agreed sure in
+    let done = resize_done s c.args.p c.args.count w c.in_ok-bytes.bytes.items (c.self.invariant.cut (before.agreed mid)) (none mid) (made mid) refl in
     stepped_by_memory s c.replace.new.self.state (Resize c.args.p c.args.count) c.replace.result (none mid) (record {})
     (on_ok c.replace.result (λ e. subst (λ (u : State). IsAfter s (Resize c.args.p c.args.count) u) (sym e)
     (subst (λ (u : State). IsAfter s (Resize c.args.p c.args.count) (with_volume u (with_trace u.volume c.args.p c.in_ok-bytes.bytes.items))) (sym st) done)) c.replace.ensures.ok)

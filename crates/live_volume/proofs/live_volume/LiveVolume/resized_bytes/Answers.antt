@@ -48,7 +48,7 @@ pub returns-in-Some-count_refusal-clause-seen : goal.returns-in-Some-count_refus
 returns-in-Some-count_refusal-clause-seen c =
     let there = rw c.in-Some.is at c.in_ok-trace.ensures.there in
     let seen = rw (c.in_ok-trace.was, c.in-Some.is) at c.look.follows.holds-at-none in
-    rw (← c.self.view_is, there.0 refl) (looked_at c.self.inside c.look.follows.lender-at-none 1 (seen_once c.self.inside.overlay c.look.follows.lender-at-none seen.looked seen.agreed))
+    rw (← c.self.view_is, there.0 refl) (looked_at c.self.inside c.look.follows.lender-at-none 1 (seen_once c.self.inside.overlay c.look.follows.lender-at-none seen.looked seen.reads))
 
 pub overflow_cast-count : goal.overflow_cast-count
 overflow_cast-count c =
@@ -61,7 +61,7 @@ overflow_cast-count c =
 pub invariant_of-self-2 : goal.invariant_of-self-2
 invariant_of-self-2 c =
     let seen = rw (c.in_ok-trace.was, c.in-Some.is) at c.look.follows.holds-at-none in
-    held_again c.self.inside c.look.follows.lender-at-none 1 (seen_once c.self.inside.overlay c.look.follows.lender-at-none seen.looked seen.agreed) c.self.invariant
+    held_again c.self.inside c.look.follows.lender-at-none 1 (seen_once c.self.inside.overlay c.look.follows.lender-at-none seen.looked seen.reads) c.self.invariant
 
 pub returns-clause-none : goal.returns-clause-none
 returns-clause-none c =
@@ -110,7 +110,7 @@ pub returns-clause-seen : goal.returns-clause-seen
 returns-clause-seen c =
     let there = rw c.in-Some.is at c.in_ok-trace.ensures.there in
     let seen = rw (c.in_ok-trace.was, c.in-Some.is) at c.look.follows.holds-at-none in
-    rw (← c.self.view_is, there.0 refl) (looked_at c.self.inside c.look.follows.lender-at-none 1 (seen_once c.self.inside.overlay c.look.follows.lender-at-none seen.looked seen.agreed))
+    rw (← c.self.view_is, there.0 refl) (looked_at c.self.inside c.look.follows.lender-at-none 1 (seen_once c.self.inside.overlay c.look.follows.lender-at-none seen.looked seen.reads))
 
 -- three checks, of which each refuses for a reason of its own
 others : (a b c : Bool) → (if a then Some DoesNotFit else if b then Some Frame else if c then Some TooLarge else None) ≡ Some OutOfMemory → ⊥

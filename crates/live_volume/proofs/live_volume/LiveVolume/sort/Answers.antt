@@ -62,9 +62,9 @@ returns-clause-step c =
     let is : c.exchange_pairs.new.self.state ≡ record old { volume = with_places_swapped old.volume c.in-Ok.pairs.items } =
     c.exchange_pairs.ensures.state ∙ ap (λ (s : State). let u : State = record s { volume = with_places_swapped s.volume c.in-Ok.pairs.items } in u) look.state in
     λ sure.
-    let mid = c.exchange_pairs.ensures.agreed sure in
+    let mid = c.exchange_pairs.ensures.reads.agreed sure in
     let l =
-    is-sorted old c.args.a c.args.b c.args.fields.now c.args.falling.now c.in-Ok.pairs.items (c.stands.ensures.cut (look.agreed mid))
+    is-sorted old c.args.a c.args.b c.args.fields.now c.args.falling.now c.in-Ok.pairs.items (c.stands.ensures.cut (look.reads.agreed mid))
     (in_range old.volume c.args.a c.args.b (sym c.in_default.is ∙ c.range_refusal.ensures)) (rw (← c.self.view_is) (c.in-Ok.ensures.ok mid)) in
     rw l.none (subst (λ (s : State). IsAfter old edit s) (sym is) l.done)
 
@@ -73,10 +73,10 @@ returns-clause-same c =
     let look = looked_as c.self.inside c.exchanges_to_sort.new.overlay _ c.args.self.now c.self.view_is c.exchanges_to_sort.ensures.seen in
     read_as_through _ _ _ look.state (read_as _ _ _ c.exchange_pairs.ensures.state)
 
-pub returns-clause-agreed : goal.returns-clause-agreed
-returns-clause-agreed c =
+pub returns-clause-reads : goal.returns-clause-reads
+returns-clause-reads c =
     let look = looked_as c.self.inside c.exchanges_to_sort.new.overlay _ c.args.self.now c.self.view_is c.exchanges_to_sort.ensures.seen in
-    λ sure. look.agreed (c.exchange_pairs.ensures.agreed sure)
+    λ sure. look.reads.agreed (c.exchange_pairs.ensures.reads.agreed sure)
 
 pub returns-clause-looks : goal.returns-clause-looks
 returns-clause-looks c =

@@ -39,7 +39,7 @@ returns-clause-fit c =
 pub returns-clause-seen : goal.returns-clause-seen
 returns-clause-seen c =
     let seen = rw (c.in_ok-trace.was, c.in-Some.is) at c.look.follows.holds-at-none in
-    looked_as c.self.inside c.look.follows.lender-at-none 1 c.args.self.now c.self.view_is (seen_once c.self.inside.overlay c.look.follows.lender-at-none seen.looked seen.agreed)
+    looked_as c.self.inside c.look.follows.lender-at-none 1 c.args.self.now c.self.view_is (seen_once c.self.inside.overlay c.look.follows.lender-at-none seen.looked seen.reads)
 
 not_told : (o : Option Refusal) → (o ≡ Some OutOfMemory → ⊥) → IfSome o (λ r. r ≢ OutOfMemory)
 not_told None never = tt

@@ -93,5 +93,5 @@ returns-clause-passed g c =
       read = settled.begins;
       bytes = sym joined;
       on_disk = ap is_on_disk standing;
-      agreed = ap is_sure standing;
+      reads = ap is_sure standing;
     })

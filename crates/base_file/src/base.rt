@@ -1,6 +1,6 @@
 // Bytes that were loaded.
-ghost use Rattle.std.specs.Prelude.{ℕ, Bool, List, ◌≡◌, ◌+◌, ◌≤◌, length, take, drop, IfErr, IsTrue, OnOk, OnErr};
-ghost use Rattle.base_file.specs.Faults.{IsFaultOfRead};
+ghost use Rattle.std.specs.Prelude.{ℕ, Bool, List, ◌≡◌, ◌+◌, ◌≤◌, length, take, drop, IsTrue, MatchResult, OnOk, OnErr};
+ghost use Rattle.base_file.specs.declared.read_fault.ReadFault.TheVariants.{ReadFailed};
 
 use crate::read_fault::ReadFault;
 
@@ -12,6 +12,9 @@ pub trait Base {
 
     /// Whether each read since gave these bytes.
     ghost agreed: { Self → Bool };
+
+    /// How many reads failed.
+    ghost failures: { Self → ℕ };
 
     /// How many there are.
     fn length(&self) -> u64
@@ -29,6 +32,9 @@ pub trait Base {
             out.new ≡ take (length out.old) (drop at (bytes self.old))) }
         ensures exact { IsTrue (agreed self.old) →
             out.new ≡ take (length out.old) (drop at (bytes self.old)) → IsTrue (agreed self.new) }
-        ensures fault { IfErr result IsFaultOfRead }
-        ensures failed { OnErr result (agreed self.new ≡ agreed self.old) };
+        ensures failed { OnErr result (agreed self.new ≡ agreed self.old) }
+
+        // It is refused where it failed, and counted then.
+        ensures failures { MatchResult result (λ _. failures self.new ≡ failures self.old)
+            (λ fault. (fault ≡ ReadFailed) × (failures self.new ≡ failures self.old + 1)) };
 }

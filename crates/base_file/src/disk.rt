@@ -1,6 +1,6 @@
 // Bytes that stay on disk.
-ghost use Rattle.std.specs.Prelude.{◌≡◌, ◌+◌, ◌≤◌, ◌<◌, ◌^◌, length, take, drop, IfErr, IsTrue, OnOk, OnErr};
-ghost use Rattle.base_file.specs.Faults.{IsFaultOfRead};
+ghost use Rattle.std.specs.Prelude.{◌≡◌, ◌+◌, ◌≤◌, ◌<◌, ◌^◌, length, take, drop, IfErr, IsTrue, MatchResult, OnOk, OnErr};
+ghost use Rattle.base_file.specs.declared.read_fault.ReadFault.TheVariants.{ReadFailed};
 ghost use Rattle.base_file.specs.Seen.{joined, all_as};
 
 use crate::base::Base;
@@ -16,35 +16,40 @@ pub struct Disk<F> {
     size: u64,
     first: Log,
     later: Log,
+    failed: Log,
     ghost counted: { length (joined first.events) ≡ size },
     ghost small: { size ≤ 2 ^ 62 },
 }
 
 impl<F> Disk<F> {
-    ghost use Rattle.base_file.specs.Disks.{bytes_of, is_agreed};
+    ghost use Rattle.base_file.specs.Disks.{bytes_of, failures_of, is_agreed};
 
-    // A file of which a pass has read so many bytes, and which was not read since.
-    pub(crate) fn new(file: F, size: u64, first: Log) -> Disk<F>
+    // A file of which a pass has read so many bytes, and which was not read since; with the reads
+    // that failed.
+    pub(crate) fn new(file: F, size: u64, first: Log, failed: Log) -> Disk<F>
         requires counted { length (joined first.events) ≡ size }
         requires small { size ≤ 2 ^ 62 }
         ensures bytes { bytes_of result ≡ joined first.events }
         ensures agreed { IsTrue (is_agreed result) }
+        ensures failures { failures_of result ≡ length failed.events }
     {
         Disk {
             file,
             size,
             first,
             later: Log::new(),
+            failed,
         }
     }
 
-    // What the pass gave.
-    pub(crate) fn into_log(self) -> Log
+    // What the pass gave, and the reads that failed.
+    pub(crate) fn into_logs(self) -> (Log, Log)
     where
         F: Drop,
-        ensures { joined result.events ≡ bytes_of self }
+        ensures bytes { joined result.0.events ≡ bytes_of self }
+        ensures failures { length result.1.events ≡ failures_of self }
     {
-        self.first
+        (self.first, self.failed)
     }
 }
 
@@ -53,12 +58,17 @@ impl<F: FileExt> Base for Disk<F> {
 
     ghost agreed = { λ d. all_as (joined d.first.events) d.later.events };
 
+    ghost failures = { λ d. length d.failed.events };
+
     fn length(&self) -> u64 {
         self.size
     }
 
     fn read(&mut self, at: u64, out: &mut [u8]) -> Result<(), ReadFault> {
-        fill(&self.file, at, out)?;
+        if let Err(fault) = fill(&self.file, at, out) {
+            self.failed.note(&[at], &[]);
+            return Err(fault);
+        }
         self.later.note(&[at], out);
         Ok(())
     }
@@ -68,7 +78,7 @@ impl<F: FileExt> Base for Disk<F> {
 // what a file gives.
 fn fill<F: FileExt>(file: &F, at: u64, out: &mut [u8]) -> Result<(), ReadFault>
     requires { at + length out.old < 2 ^ 64 }
-    ensures { IfErr result IsFaultOfRead }
+    ensures { IfErr result (λ fault. fault ≡ ReadFailed) }
 {
     let mut done = 0;
     'turns: while done < out.len() {

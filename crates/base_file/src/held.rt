@@ -1,5 +1,5 @@
 // The bytes under a volume.
-ghost use Rattle.std.specs.Prelude.{◌≡◌, ◌+◌, ◌-◌, ◌≤◌, ◌↔◌, ◌⊎◌, ◌++◌, true, [], length, take, drop, IfErr, IfOk, IsOk, IsTrue, OnErr, OnOk};
+ghost use Rattle.std.specs.Prelude.{◌≡◌, ◌+◌, ◌-◌, ◌≤◌, ◌<◌, ◌↔◌, ◌⊎◌, ◌++◌, true, [], length, take, drop, IfErr, IfOk, IsFalse, IsOk, IsTrue, MatchResult, OnErr, OnOk};
 
 use crate::base::Base;
 use crate::disk::Disk;
@@ -15,7 +15,8 @@ use std::marker::Model;
 
 /// The bytes under a volume, in memory or on disk, with room for what is lent of them: a clause
 /// sees those that were loaded and their standing, which of them were read last, how many there is
-/// room for, and how many of the first and of the last ones are kept. Places count from 0.
+/// room for, how many of the first and of the last ones are kept, and how many reads failed. Places
+/// count from 0.
 #[derive(Drop)]
 pub struct Held {
     source: Source,
@@ -39,10 +40,10 @@ impl Model for Held {
 }
 
 impl Held {
-    ghost use Rattle.base_file.specs.Disks.{bytes_of, is_agreed};
+    ghost use Rattle.base_file.specs.Disks.{bytes_of, failures_of, is_agreed};
     ghost use Rattle.base_file.specs.Faults.{IsFaultOfRead};
     ghost use Rattle.base_file.specs.Seen.{joined};
-    ghost use Rattle.base_file.specs.HeldBytes.{InMemory, OnDisk, HasGrown, IsInMemory, IsStill, IsSure, AreThere, lent_of};
+    ghost use Rattle.base_file.specs.HeldBytes.{InMemory, OnDisk, OnPass, after_pass, HasGrown, IsInMemory, IsStill, IsSure, AreThere, lent_of};
 
     /// Bytes in memory. Takes no memory.
     pub fn in_memory(alloc: Global, bytes: Vec<u8>) -> Held
@@ -50,6 +51,7 @@ impl Held {
         ensures standing { result.standing ≡ InMemory }
         ensures front { result.front ≡ length bytes.items }
         ensures back { result.back ≡ length bytes.items }
+        ensures failures { result.failures ≡ 0 }
     {
         Held {
             source: Source::Memory(Memory { bytes }),
@@ -71,6 +73,7 @@ impl Held {
         ensures most { result.most ≡ length room.items }
         ensures front { result.front ≡ length front.items }
         ensures back { result.back ≡ length back.items }
+        ensures failures { result.failures ≡ failures_of disk }
     {
         Held {
             source: Source::Disk(disk),
@@ -84,7 +87,8 @@ impl Held {
     /// Takes no memory.
     pub fn on_pass(alloc: Global, file: File) -> Held
         ensures bytes { result.bytes ≡ [] }
-        ensures standing { result.standing ≡ OnDisk true }
+        ensures standing { result.standing ≡ OnPass }
+        ensures failures { result.failures ≡ 0 }
     {
         Held {
             source: Source::Pass(Loading::new(file)),
@@ -94,12 +98,14 @@ impl Held {
         }
     }
 
-    /// The next bytes of a file that is being read, into the front of the block: how many, and 0 at
-    /// the end or where the block is empty; 0 too where the bytes are in memory, or the pass has
-    /// ended. Takes no memory. Refused where the file failed, and where there are more than 2^62
-    /// bytes; the pass then stands where it stood.
+    /// The next bytes of a file that is being read, into the front of the block: how many, and 0
+    /// only where the block is empty; 0 where the bytes are in memory, or the pass has ended. Takes
+    /// no memory. Refused where the file failed or has no more bytes, and where there are more than
+    /// 2^62; the pass then stands where it stood, with one failed read more.
     pub fn read_on(&mut self, block: &mut [u8]) -> Result<usize, ReadFault>
         ensures fits { IfOk result (λ n. n ≤ length block.new) }
+        ensures some { IfOk result (λ n. self.old.standing ≡ OnPass → 0 < length block.new →
+            0 < n) }
         ensures bytes { IfOk result (λ n. self.new.bytes ≡ self.old.bytes ++ take n block.new) }
         ensures failed { OnErr result (self.new.bytes ≡ self.old.bytes) }
         ensures standing { self.new.standing ≡ self.old.standing }
@@ -108,22 +114,34 @@ impl Held {
         ensures most { self.new.most ≡ self.old.most }
         ensures front { self.new.front ≡ self.old.front }
         ensures back { self.new.back ≡ self.old.back }
+        ensures failures { MatchResult result (λ _. self.new.failures ≡ self.old.failures)
+            (λ _. self.new.failures ≡ self.old.failures + 1) }
     {
         match &mut self.source {
-            Source::Pass(loading) => loading.next(block),
+            Source::Pass(loading) => loading.more(block),
             Source::Memory(_) | Source::Disk(_) => Ok(0),
         }
     }
 
     /// Whether a file that is being read has no more bytes; true where the bytes are in memory, or
-    /// the pass has ended. Takes no memory. Refused as `read_on`.
+    /// the pass has ended. Takes no memory. Refused where the file failed, and where there are more
+    /// than 2^62 bytes.
     pub fn is_at_end(&mut self) -> Result<bool, ReadFault>
         ensures grown { HasGrown self.old self.new }
         ensures end { IfOk result (λ end. IsTrue end → self.new.bytes ≡ self.old.bytes) }
+        ensures more { IfOk result (λ end. IsFalse end →
+            length self.old.bytes < length self.new.bytes) }
+        ensures failures { MatchResult result (λ _. self.new.failures ≡ self.old.failures)
+            (λ _. self.new.failures ≡ self.old.failures + 1) }
     {
         let mut byte = [0];
-        let count = self.read_on(&mut byte)?;
-        Ok(count == 0)
+        match &mut self.source {
+            Source::Pass(loading) => {
+                let count = loading.next(&mut byte)?;
+                Ok(count == 0)
+            }
+            Source::Memory(_) | Source::Disk(_) => Ok(true),
+        }
     }
 
     /// The bytes as they were read so far: the pass ends. With room for as many as are to be lent
@@ -134,10 +152,11 @@ impl Held {
         requires back { back.items ≡ drop (length self.bytes - length back.items) self.bytes }
         requires fits { length back.items ≤ length self.bytes }
         ensures bytes { result.bytes ≡ self.bytes }
-        ensures standing { result.standing ≡ self.standing }
+        ensures standing { result.standing ≡ after_pass self.standing }
         ensures most { ¬ IsInMemory self.standing → result.most ≡ length room.items }
         ensures front { ¬ IsInMemory self.standing → result.front ≡ length front.items }
         ensures back { ¬ IsInMemory self.standing → result.back ≡ length back.items }
+        ensures failures { result.failures ≡ self.failures }
     {
         let Held {
             source,
@@ -157,11 +176,12 @@ impl Held {
         }
     }
 
-    /// What the pass over the file gave, the file itself given back: clauses see its bytes. Takes
-    /// no memory.
-    pub fn into_log(self) -> Log
+    /// What the pass over the file gave, and the reads that failed, the file itself given back:
+    /// clauses see its bytes, and how many failed. Takes no memory.
+    pub fn into_logs(self) -> (Log, Log)
         requires { ¬ IsInMemory self.standing }
-        ensures { joined result.events ≡ self.bytes }
+        ensures bytes { joined result.0.events ≡ self.bytes }
+        ensures failures { length result.1.events ≡ self.failures }
     {
         let Held {
             source,
@@ -171,8 +191,8 @@ impl Held {
         } = self;
         match source {
             Source::Memory(_) => unreachable!(),
-            Source::Disk(disk) => disk.into_log(),
-            Source::Pass(loading) => loading.into_log(),
+            Source::Disk(disk) => disk.into_logs(),
+            Source::Pass(loading) => loading.into_logs(),
         }
     }
 
@@ -228,7 +248,8 @@ impl Held {
     /// many bytes are read as there is room for; and where the file failed in that, or they begin
     /// elsewhere, these n alone. Takes no memory. Refused where the file failed or has fewer bytes
     /// than it had, after which none stand in the room, and where they are more than there is room
-    /// for; of bytes in memory never.
+    /// for, as each are of a file that is being read: that is no failed read; of bytes in memory
+    /// never.
     #[inline]
     pub fn fetch(&mut self, at: u64, n: usize) -> Result<(), ReadFault>
         requires { at + n ≤ length self.old.bytes }
@@ -237,14 +258,19 @@ impl Held {
         ensures size { OnOk result (length (lent_of self.new at n) ≡ n) }
         ensures bytes { OnOk result (IsSure self.new.standing →
             lent_of self.new at n ≡ take n (drop at self.old.bytes)) }
-        ensures fault { IfErr result IsFaultOfRead }
+        ensures fault { IfErr result (IsFaultOfRead self.old.most n self.old.failures
+            self.new.failures) }
         ensures memory { IsInMemory self.old.standing → IsOk result }
         ensures again { AreThere self.old at n → self.new ≡ self.old }
     {
         match &mut self.source {
             Source::Memory(_) => Ok(()),
             Source::Disk(disk) => self.room.fetch(disk, at, n),
-            Source::Pass(_) => Err(ReadFault::ReadFailed),
+            Source::Pass(_) if n > 0 => Err(ReadFault::TooLarge),
+            Source::Pass(_) => {
+                self.room.clear(at);
+                Ok(())
+            }
         }
     }
 

@@ -5,7 +5,9 @@
 //! and each later read asks the file again. No clause says what a file gives. So what a read gave
 //! is said where each read since the pass gave its bytes (`agreed`, which no code can tell), and
 //! how much it gave, that it ends, and what stays the same, in any case; of bytes in memory nothing
-//! is open.
+//! is open. How many reads of a file failed is counted, for clauses alone (`failures`): only those
+//! that the file was asked for count. A read is refused where one failed, or where more is asked
+//! for than there is room for, which counts as none.
 //!
 //! `Held` is the one of the two that a volume stands on, with room for what is lent; its `Standing`
 //! says which. What is to be seen is read first (`fetch`), and lent then (`lent`); what was read

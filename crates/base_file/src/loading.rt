@@ -1,5 +1,5 @@
 // The one pass that loads a file which stays on disk.
-ghost use Rattle.std.specs.Prelude.{◌≡◌, ◌+◌, ◌≤◌, ◌<◌, ◌^◌, ◌++◌, [], length, take, IfOk, OnErr, IsTrue};
+ghost use Rattle.std.specs.Prelude.{◌≡◌, ◌+◌, ◌≤◌, ◌<◌, ◌^◌, ◌++◌, [], length, take, IfOk, MatchResult, OnErr, IsTrue};
 ghost use Rattle.base_file.specs.Seen.{joined};
 
 use crate::disk::Disk;
@@ -16,42 +16,78 @@ pub struct Loading<F> {
     file: F,
     size: u64,
     first: Log,
+    failed: Log,
     ghost counted: { length (joined first.events) ≡ size },
     ghost small: { size ≤ 2 ^ 62 },
 }
 
 impl<F: FileExt> Loading<F> {
-    ghost use Rattle.base_file.specs.Disks.{bytes_so_far, bytes_of, is_agreed};
+    ghost use Rattle.base_file.specs.Disks.{bytes_so_far, bytes_of, failures_of, failures_so_far, is_agreed};
 
     /// At the front of the file. Takes no memory.
     pub fn new(file: F) -> Loading<F>
-        ensures { bytes_so_far result ≡ [] }
+        ensures bytes { bytes_so_far result ≡ [] }
+        ensures failures { failures_so_far result ≡ 0 }
     {
         Loading {
             file,
             size: 0,
             first: Log::new(),
+            failed: Log::new(),
         }
     }
 
     /// The next bytes, into the front of the block: how many, and 0 at the end or where the block
     /// is empty. Takes no memory. Refused where the file failed, and where there are more than 2^62
-    /// bytes; the pass then stands where it stood.
+    /// bytes; the pass then stands where it stood, with one failed read more.
     pub fn next(&mut self, block: &mut [u8]) -> Result<usize, ReadFault>
         ensures bound { IfOk result (λ n. n ≤ length block.new) }
         ensures bytes { IfOk result (λ n. bytes_so_far self.new
             ≡ bytes_so_far self.old ++ take n block.new) }
         ensures failed { OnErr result (bytes_so_far self.new ≡ bytes_so_far self.old) }
+        ensures failures { MatchResult result
+            (λ _. failures_so_far self.new ≡ failures_so_far self.old)
+            (λ _. failures_so_far self.new ≡ failures_so_far self.old + 1) }
     {
         let Ok(count) = self.file.read_at(block, self.size) else {
-            return Err(ReadFault::ReadFailed);
+            return Err(self.note_failure(ReadFault::ReadFailed));
         };
         if count as u64 > MOST - self.size {
-            return Err(ReadFault::TooLarge);
+            return Err(self.note_failure(ReadFault::TooLarge));
         }
         self.first.note(&[self.size], &block[..count]);
         self.size += count as u64;
         Ok(count)
+    }
+
+    /// The next bytes, of which there are to be some: how many, and 0 only where the block is
+    /// empty. Refused as `next`, and at the end. Takes no memory.
+    pub fn more(&mut self, block: &mut [u8]) -> Result<usize, ReadFault>
+        ensures bound { IfOk result (λ n. n ≤ length block.new) }
+        ensures some { IfOk result (λ n. 0 < length block.new → 0 < n) }
+        ensures bytes { IfOk result (λ n. bytes_so_far self.new
+            ≡ bytes_so_far self.old ++ take n block.new) }
+        ensures failed { OnErr result (bytes_so_far self.new ≡ bytes_so_far self.old) }
+        ensures failures { MatchResult result
+            (λ _. failures_so_far self.new ≡ failures_so_far self.old)
+            (λ _. failures_so_far self.new ≡ failures_so_far self.old + 1) }
+    {
+        let count = self.next(block)?;
+        if count == 0 && !block.is_empty() {
+            return Err(self.note_failure(ReadFault::ReadFailed));
+        }
+        Ok(count)
+    }
+
+    // A read of the file failed, or gave none or more bytes than can be counted: it counts as one
+    // that failed for this reason, which is given back.
+    fn note_failure(&mut self, fault: ReadFault) -> ReadFault
+        ensures fault { result ≡ fault }
+        ensures bytes { bytes_so_far self.new ≡ bytes_so_far self.old }
+        ensures failures { failures_so_far self.new ≡ failures_so_far self.old + 1 }
+    {
+        self.failed.note(&[self.size], &[]);
+        fault
     }
 
     // How many bytes were read.
@@ -61,21 +97,28 @@ impl<F: FileExt> Loading<F> {
         self.size
     }
 
-    // What the pass gave so far.
-    pub(crate) fn into_log(self) -> Log
+    // What the pass gave so far, and the reads that failed.
+    pub(crate) fn into_logs(self) -> (Log, Log)
     where
         F: Drop,
-        ensures { joined result.events ≡ bytes_so_far self }
+        ensures bytes { joined result.0.events ≡ bytes_so_far self }
+        ensures failures { length result.1.events ≡ failures_so_far self }
     {
-        self.first
+        (self.first, self.failed)
     }
 
     /// The file as it was read so far. Takes no memory.
     pub fn finish(self) -> Disk<F>
         ensures bytes { bytes_of result ≡ bytes_so_far self }
         ensures agreed { IsTrue (is_agreed result) }
+        ensures failures { failures_of result ≡ failures_so_far self }
     {
-        let Loading { file, size, first } = self;
-        Disk::new(file, size, first)
+        let Loading {
+            file,
+            size,
+            first,
+            failed,
+        } = self;
+        Disk::new(file, size, first, failed)
     }
 }

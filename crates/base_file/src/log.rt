@@ -6,8 +6,8 @@ ghost use Rattle.base_file.specs.Seen.{Seen, seen_of};
 use std::marker::{Model, PhantomData};
 
 /// What reads gave, the last one first: only clauses see it, and it takes no memory. Only the reads
-/// of `Loading` and `Disk` note, each what it gave, and where; their two calls here, which do
-/// nothing, are proved by hand.
+/// of `Loading` and `Disk` note, each what it gave, and where, those that failed in a list of their
+/// own: the file was asked each time. Their two calls here, which do nothing, are proved by hand.
 #[derive(Drop)]
 pub struct Log {
     marker: PhantomData<u8>,

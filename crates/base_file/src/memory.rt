@@ -1,5 +1,6 @@
 // Bytes in memory.
-ghost use Rattle.std.specs.Prelude.{◌≡◌, ◌+◌, ◌≤◌, length, take, drop, true, IsTrue, OnOk, OnErr};
+ghost use Rattle.std.specs.Prelude.{◌≡◌, ◌+◌, ◌≤◌, length, take, drop, true, IsTrue, MatchResult, OnOk, OnErr};
+ghost use Rattle.base_file.specs.declared.read_fault.ReadFault.TheVariants.{ReadFailed};
 
 use crate::base::Base;
 use crate::read_fault::ReadFault;
@@ -14,6 +15,8 @@ impl Base for Memory {
     ghost bytes = { λ m. m.bytes.items };
 
     ghost agreed = { λ _. true };
+
+    ghost failures = { λ _. 0 };
 
     fn length(&self) -> u64 {
         self.bytes.len() as u64

@@ -1,6 +1,6 @@
 // Room for the bytes of a base that were read last.
-ghost use Rattle.std.specs.Prelude.{◌≡◌, ◌+◌, ◌-◌, ◌<◌, ◌≤◌, ◌^◌, ◌↔◌, length, take, drop, IfErr, IsOk, IsTrue, OnErr, OnOk};
-ghost use Rattle.base_file.specs.Faults.{IsFaultOfRead};
+ghost use Rattle.std.specs.Prelude.{◌≡◌, ◌+◌, ◌-◌, ◌<◌, ◌≤◌, ◌^◌, ◌↔◌, ◌⊎◌, length, take, drop, IfErr, IsOk, IsTrue, MatchResult, OnErr, OnOk};
+ghost use Rattle.base_file.specs.declared.read_fault.ReadFault.TheVariants.{ReadFailed, TooLarge};
 
 use crate::base::Base;
 use crate::read_fault::ReadFault;
@@ -52,7 +52,10 @@ impl Room {
         ensures falls { IsTrue (B.agreed base.new) → IsTrue (B.agreed base.old) }
         ensures of { IsOf (B.bytes base.new) (B.agreed base.new) self.new }
         ensures most { length self.new.block.items ≡ length self.old.block.items }
-        ensures fault { IfErr result IsFaultOfRead }
+        ensures failures { B.failures base.old ≤ B.failures base.new }
+        ensures fault { IfErr result (λ fault.
+            ((fault ≡ ReadFailed) × (B.failures base.old < B.failures base.new)) ⊎
+            ((fault ≡ TooLarge) × (length self.old.block.items < n))) }
         ensures there { OnOk result (StandIn self.new.from (read_last self.new) at n) }
         ensures again { StandIn self.old.from (read_last self.old) at n →
             IsOk result × (self.new ≡ self.old) × (base.new ≡ base.old) }
@@ -93,6 +96,16 @@ impl Room {
         n
     }
 
+    // None stand here, and the next begin at `at`.
+    pub fn clear(&mut self, at: u64)
+        ensures block { self.new.block ≡ self.old.block }
+        ensures from { self.new.from ≡ at }
+        ensures filled { self.new.filled ≡ 0 }
+    {
+        self.from = at;
+        self.filled = 0;
+    }
+
     // Reads n bytes from `at` on, which stand here then; where the read failed, none do.
     fn refill<B: Base>(&mut self, base: &mut B, at: u64, n: usize) -> Result<(), ReadFault>
         requires inside { at + n ≤ length (B.bytes base.old) }
@@ -105,11 +118,11 @@ impl Room {
         ensures from { self.new.from ≡ at }
         ensures filled { OnOk result (self.new.filled ≡ n) }
         ensures none { OnErr result (self.new.filled ≡ 0) }
-        ensures fault { IfErr result IsFaultOfRead }
+        ensures failures { MatchResult result (λ _. B.failures base.new ≡ B.failures base.old)
+            (λ fault. (fault ≡ ReadFailed) × (B.failures base.new ≡ B.failures base.old + 1)) }
     {
         // A read that fails may have written into the block.
-        self.from = at;
-        self.filled = 0;
+        self.clear(at);
         read_front(base, at, n, self.block.as_mut_slice())?;
         self.filled = n;
         Ok(())
@@ -124,7 +137,8 @@ fn read_front<B: Base>(base: &mut B, at: u64, n: usize, block: &mut [u8]) -> Res
     ensures falls { IsTrue (B.agreed base.new) → IsTrue (B.agreed base.old) }
     ensures read { OnOk result (IsTrue (B.agreed base.new) →
         take n block.new ≡ take n (drop at (B.bytes base.old))) }
-    ensures fault { IfErr result IsFaultOfRead }
+    ensures failures { MatchResult result (λ _. B.failures base.new ≡ B.failures base.old)
+        (λ fault. (fault ≡ ReadFailed) × (B.failures base.new ≡ B.failures base.old + 1)) }
 {
     base.read(at, &mut block[..n])?;
     Ok(())

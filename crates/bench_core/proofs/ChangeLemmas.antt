@@ -1,6 +1,6 @@
 -- The slices that are kept after an edit are those of the volume after it.
 use Rattle.std.proofs.Common.{◌≡◌, ℕ, ℤ, ◌-◌, ◌<◌, ◌≤◌, Bool, true, false, cond, eqb, List, [], ◌∷◌, length, Option, Some, None, refl, sym, ap, subst, ◌∙◌, arith, get_or-set_same, length-set}
-use Rattle.std.specs.Prelude.{Result, Ok, Err, IfOk, IsErrOf, OnErr, option_map, not}
+use Rattle.std.specs.Prelude.{Result, Ok, Err, IfErr, IfOk, IsErrOf, OnErr, option_map, not}
 use Rattle.std.specs.Result.{IsErrAnd}
 use Rattle.std.specs.List.{list_any}
 use Rattle.std.proofs.lemmas.Bool.{eq-eqb, le-leb}
@@ -11,6 +11,7 @@ use Rattle.field_map.specs.declared.place.Place.{Place}
 use Rattle.frame_cut.specs.Cuts.{IsCut}
 use Rattle.frame_cut.specs.Traces.{count_of, trace_of, trace_at, with_trace}
 use Rattle.frame_cut.specs.Volume.{Volume, bytes_of}
+use Rattle.edit_overlay.specs.Reads.{Reads}
 use Rattle.bench_rules.specs.KeptSlices.{Cache, kept_numbers, kept_of, is_from, IsRight}
 use Rattle.time_slice.proofs.CacheLemmas.{numbers_after_forgotten}
 use Rattle.bench_rules.specs.declared.edit.Edit.{Edit}
@@ -24,6 +25,7 @@ use Rattle.bench_rules.specs.Live.{AreSlicesOf, kept_after_reply}
 use Rattle.bench_rules.specs.Looks.{query_looks}
 use Rattle.bench_rules.specs.Places.{place_in_trace}
 use Rattle.bench_rules.specs.Refused.{first_refusal, with_value}
+use Rattle.bench_rules.specs.ReadFaults.{IsRefusalOfReads}
 use Rattle.bench_rules.specs.Reports.{slice_in}
 use Rattle.bench_rules.specs.State.{State}
 use Rattle.bench_rules.specs.Steps.{IsAfter, Step, StepUnless}
@@ -230,6 +232,11 @@ no_slice (AskOfChosen c query) other = (λ s kept. refl, λ kept. refl)
 pub same_kept : {A E : Type 0} (r : Result A E) {after before : List ℕ} → after ≡ before → kept_after_reply r after before ≡ before
 same_kept (Ok a) same = same
 same_kept (Err e) same = refl
+
+-- what the reads tell of a refusal they tell where it is handed on
+pub tells_too : {T : Type 0} (refusal : Refusal) (r : Result T Refusal) (old new : Reads) → IsErrAnd r (λ e. e ≡ refusal) → IsRefusalOfReads old new refusal → IfErr r (IsRefusalOfReads old new)
+tells_too refusal (Ok x) old new is told = absurd is
+tells_too refusal (Err e) old new is told = subst (λ (x : Refusal). IsRefusalOfReads old new x) (sym is) told
 
 module _ {T U : Type 0} where
   -- what was refused for want of memory is so too where the refusal is handed on

@@ -4,4 +4,4 @@ use Rattle.bench_rules.specs.State.{Session}
 
 -- its volume, as contracts of the volume see it
 abbrev pub volume_of : LiveSession → Session
-volume_of b = record { state = b.state; looks = b.looks; loaded = b.loaded; agreed = b.agreed }
+volume_of b = record { state = b.state; looks = b.looks; loaded = b.loaded; reads = b.reads }

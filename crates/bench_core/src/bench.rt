@@ -1,4 +1,4 @@
-ghost use Rattle.std.specs.Prelude.{◌≡◌, ◌≤◌, ◌↔◌, true, false, length, IsSome, IfSome, IsTrue, IfOk, IfErr, OnErr, MatchResult, IsErrAnd, IsErrOf};
+ghost use Rattle.std.specs.Prelude.{ℕ, ◌≡◌, ◌≤◌, ◌↔◌, true, false, length, IsSome, IfSome, IsTrue, IfOk, IfErr, OnErr, MatchResult, IsErrAnd, IsErrOf};
 ghost use Rattle.std.specs.Borrow.{sem};
 ghost use Rattle.room.specs.Refusals.{Rises};
 ghost use Rattle.frame_cut.specs.Traces.{is_trace};
@@ -10,6 +10,7 @@ ghost use Rattle.edit_overlay.specs.CountedVolume.{RisesAtMost};
 ghost use Rattle.volume_loading.specs.PassedFile.{IsPassFault};
 ghost use Rattle.volume_loading.specs.Loading.{IsLoadFault, FailuresAfterRefusal, TakesWithin};
 ghost use Rattle.edit_overlay.specs.Saving.{CountsSaveFailure, Saves};
+ghost use Rattle.edit_overlay.specs.Reads.{Follow, HaveAgreed, IsFaultOfLook};
 ghost use Rattle.live_volume.specs.Held.{IsReadAs};
 ghost use Rattle.bench_rules.specs.declared.query.Query.TheVariants as queries;
 ghost use Rattle.bench_rules.specs.Answer.{IsReply};
@@ -18,6 +19,7 @@ ghost use Rattle.bench_rules.specs.Kept.{is_kept, kept_after_load, kept_after_ed
 ghost use Rattle.bench_core.specs.Lent.{volume_of};
 ghost use Rattle.bench_rules.specs.Live.{kept_after_reply};
 ghost use Rattle.bench_rules.specs.Looks.{load_looks, edit_looks, query_looks};
+ghost use Rattle.bench_rules.specs.ReadFaults.{IsFaultOfNoRead, IsFaultOfReads, IsRefusalOfReads};
 ghost use Rattle.bench_rules.specs.Steps.{Step, told_of};
 
 use crate::changes::{change, follow, no_slices};
@@ -81,7 +83,7 @@ impl Bench {
         ensures limits { IfOk result (λ b. b.state.limits ≡ limits) }
         ensures in_memory { IfOk result (λ b. b.state.on_disk ≡ false) }
         ensures loaded { IfOk result (λ b. b.loaded ≡ bytes_of b.state.volume) }
-        ensures agreed { IfOk result (λ b. IsTrue b.agreed) }
+        ensures reads { IfOk result (λ b. HaveAgreed b.reads) }
         ensures refused { IfErr result (λ fault. IsLoadFault (R.remaining reader.old.inner) reading
             limits fault) }
         ensures read { IfErr result (λ _. TakesWithin (R.remaining reader.old.inner)
@@ -119,9 +121,10 @@ impl Bench {
         ensures reading { IfOk result (λ b. b.state.reading ≡ reading) }
         ensures limits { IfOk result (λ b. b.state.limits ≡ limits) }
         ensures place { IfOk result (λ b. b.state.on_disk ≡ true) }
-        ensures agreed { IfOk result (λ b. IsTrue b.agreed) }
+        ensures reads { IfOk result (λ b. HaveAgreed b.reads) }
         ensures refused { IfErr result
-            (λ refused. IsPassFault size reading limits refused.read refused.fault) }
+            (λ refused. IsPassFault size reading limits refused.read refused.failures
+            refused.fault) }
         ensures memory { Rises (IsErrAnd result (λ e. e.fault ≡
             LoadFault.OutOfMemory)) room.old room.new }
     {
@@ -137,7 +140,7 @@ impl Bench {
     /// name to a place that each trace has. This is what the laws of `bench_laws` ask of a state.
     /// Does nothing: its contract is the law.
     pub fn stands(&self)
-        ensures cut { IsTrue self.now.agreed → IsCut (bytes_of self.now.state.volume)
+        ensures cut { HaveAgreed self.now.reads → IsCut (bytes_of self.now.state.volume)
             self.now.state.reading self.now.state.limits self.now.state.volume }
         ensures geometry { HasGeometry self.now.state.volume.head.extensions
             self.now.state.fields }
@@ -147,7 +150,7 @@ impl Bench {
 
     /// In memory each read agrees. Does nothing: its contract is the law.
     pub fn memory_agrees(&self)
-        ensures { self.now.state.on_disk ≡ false → IsTrue self.now.agreed }
+        ensures { self.now.state.on_disk ≡ false → HaveAgreed self.now.reads }
     {
         self.volume.memory_agrees();
     }
@@ -158,19 +161,22 @@ impl Bench {
     /// `Renumber`, `Compute`, `Sort` and `OfChosen` take memory, and are refused for want of it,
     /// E11, only where nothing else refuses them; `OfChosen`, whose traces have to be listed first,
     /// in the place of any refusal but E01. On disk an edit that looks is also refused where a
-    /// trace could not be read (E14, E15). Slices that the edit may have changed are forgotten.
+    /// trace could not be read: E14, only where a read failed in this call; E15, only where one
+    /// since the load gave other bytes. Slices that the edit may have changed are forgotten.
     pub fn apply(&mut self, room: &mut Room, edit: &Edit) -> Result<Option<u32>, Refusal>
-        ensures step { IsTrue self.new.agreed → Step self.old.state edit.now result self.new.state }
+        ensures step { HaveAgreed self.new.reads →
+            Step self.old.state edit.now result self.new.state }
         ensures err { OnErr result (self.new.state ≡ self.old.state) }
         ensures same { IsReadAs self.old.state self.new.state }
-        ensures agreed { IsTrue self.new.agreed → IsTrue self.old.agreed }
+        ensures reads { Follow self.old.reads self.new.reads }
+        ensures reads_tell { IfErr result (IsRefusalOfReads self.old.reads self.new.reads) }
         ensures loaded { self.new.loaded ≡ self.old.loaded }
         ensures looks { RisesAtMost self.old.looks self.new.looks
             (edit_looks self.old.state edit.now) }
-        ensures kept { IsTrue self.new.agreed → self.new.kept ≡ kept_after_reply result
+        ensures kept { HaveAgreed self.new.reads → self.new.kept ≡ kept_after_reply result
             (kept_after_edit self.old.state edit.now self.old.kept) self.old.kept }
         ensures kept_err { OnErr result (self.new.kept ≡ self.old.kept) }
-        ensures told { IfOk result (λ told. IsTrue self.new.agreed →
+        ensures told { IfOk result (λ told. HaveAgreed self.new.reads →
             told ≡ told_of self.old.state edit.now) }
         ensures memory { Rises (IsErrOf result Refusal.OutOfMemory) room.old room.new }
     {
@@ -182,17 +188,21 @@ impl Bench {
 
     /// The answer to a query, which leaves the state as it is. Takes memory where the answer is a
     /// text or a list, and is refused for want of it, E11, only where nothing else refuses it. On
-    /// disk a query that looks is also refused where a trace could not be read (E14, E15). A slice
-    /// that is answered is kept, and answered again without a look at any trace.
+    /// disk a query that looks is also refused where a trace could not be read (E14, E15, only as
+    /// an edit is). A slice that is answered is kept, and answered again without a look at any
+    /// trace: then no read refuses it.
     pub fn ask(&mut self, room: &mut Room, query: &Query) -> Result<Answer, AskFault>
-        ensures reply { IsTrue self.new.agreed → IsReply self.old.state query.now result }
+        ensures reply { HaveAgreed self.new.reads → IsReply self.old.state query.now result }
         ensures unchanged { self.new.state ≡ self.old.state }
-        ensures agreed { IsTrue self.new.agreed → IsTrue self.old.agreed }
+        ensures reads { Follow self.old.reads self.new.reads }
+        ensures reads_tell { IfErr result (IsFaultOfReads self.old.reads self.new.reads) }
         ensures loaded { self.new.loaded ≡ self.old.loaded }
         ensures looks { RisesAtMost self.old.looks self.new.looks
             (query_looks self.old.state self.old.kept query.now) }
         ensures kept { self.new.kept ≡ kept_after_reply result
             (kept_after_query query.now self.old.kept) self.old.kept }
+        ensures kept_slice { (k : ℕ) → query.now ≡ queries.Slice k →
+            IsTrue (is_kept k self.old.kept) → IfErr result IsFaultOfNoRead }
         ensures memory { Rises (IsErrOf result AskFault.OutOfMemory) room.old room.new }
     {
         if let Query::Slice(k) = query {
@@ -203,15 +213,17 @@ impl Bench {
 
     // Sample k of each trace that has it: E12.
     fn slice(&mut self, room: &mut Room, k: u32) -> Result<Answer, AskFault>
-        ensures reply { IsTrue self.new.agreed →
+        ensures reply { HaveAgreed self.new.reads →
             IsReply self.old.state (queries.Slice k) result }
         ensures unchanged { self.new.state ≡ self.old.state }
-        ensures agreed { IsTrue self.new.agreed → IsTrue self.old.agreed }
+        ensures reads { Follow self.old.reads self.new.reads }
+        ensures reads_tell { IfErr result (IsFaultOfReads self.old.reads self.new.reads) }
         ensures loaded { self.new.loaded ≡ self.old.loaded }
         ensures looks { RisesAtMost self.old.looks self.new.looks
             (query_looks self.old.state self.old.kept (queries.Slice k)) }
         ensures kept { self.new.kept ≡ kept_after_reply result
             (kept_after_query (queries.Slice k) self.old.kept) self.old.kept }
+        ensures kept_slice { IsTrue (is_kept k self.old.kept) → IfErr result IsFaultOfNoRead }
         ensures memory { Rises (IsErrOf result AskFault.OutOfMemory) room.old room.new }
     {
         if self.volume.has_opaque_samples() {
@@ -223,7 +235,8 @@ impl Bench {
 
     /// Trace p, counted from 1, and one look more; None where there is none, and then no look. On
     /// disk the trace is read, and refused where the file fails or gives other bytes than it gave
-    /// when it was loaded, as far as its length tells. Takes no memory.
+    /// when it was loaded, as far as its length tells: only where a read failed, or gave others.
+    /// Takes no memory.
     pub fn look(&mut self, p: u32) -> Result<Option<TraceView<'_>>, ReadFault>
         ensures* ends { sem 𝓛 (EndsLooked self.entry p result) }
         ensures there { IfOk result
@@ -271,13 +284,15 @@ impl Bench {
     /// the loaded bytes did; `written` is then the length of the prefix that the writer took. Takes
     /// no memory.
     pub fn save<W: Write>(&mut self, writer: &mut Sink<W>) -> Result<(), SaveFault>
-        ensures saved { IsTrue self.new.agreed → Saves (W.contents writer.old.inner)
+        ensures saved { HaveAgreed self.new.reads → Saves (W.contents writer.old.inner)
             (W.contents writer.new.inner) (bytes_of self.old.state.volume) result }
         ensures read { IfErr result
             (λ fault. IsSome fault.read → IsTrue self.old.state.on_disk) }
+        ensures reads_tell { IfErr result (λ fault. IfSome fault.read
+            (IsFaultOfLook self.old.reads self.new.reads)) }
         ensures failures { CountsSaveFailure result writer.old.failures writer.new.failures }
         ensures unchanged { self.new.state ≡ self.old.state }
-        ensures agreed { IsTrue self.new.agreed → IsTrue self.old.agreed }
+        ensures reads { Follow self.old.reads self.new.reads }
         ensures loaded { self.new.loaded ≡ self.old.loaded }
         ensures looks { self.new.looks ≡ self.old.looks }
         ensures kept { self.new.kept ≡ self.old.kept }

@@ -1,9 +1,11 @@
 // What an edit that was done leaves of the slices that are kept.
-ghost use Rattle.std.specs.Prelude.{◌≡◌, IsTrue, IfOk, OnErr, IsErr, IsErrOf};
+ghost use Rattle.std.specs.Prelude.{◌≡◌, IfErr, IfOk, OnErr, IsErr, IsErrOf};
 ghost use Rattle.room.specs.Refusals.{Rises};
 ghost use Rattle.bench_rules.specs.KeptSlices.{none_kept};
 ghost use Rattle.edit_overlay.specs.CountedVolume.{RisesAtMost};
+ghost use Rattle.edit_overlay.specs.Reads.{Follow, HaveAgreed};
 ghost use Rattle.bench_rules.specs.Looks.{edit_looks};
+ghost use Rattle.bench_rules.specs.ReadFaults.{IsRefusalOfReads};
 ghost use Rattle.bench_rules.specs.Steps.{Step, told_of};
 ghost use Rattle.live_volume.specs.Held.{IsReadAs};
 ghost use Rattle.bench_core.specs.Changes.{has_moved, is_moved, entries_after};
@@ -30,17 +32,18 @@ pub fn change(
     room: &mut Room,
     edit: &Edit,
 ) -> Result<(bool, Option<u32>), Refusal>
-    ensures step { IsTrue volume.new.agreed →
+    ensures step { HaveAgreed volume.new.reads →
         Step volume.old.state edit.now result volume.new.state }
     ensures err { OnErr result (volume.new.state ≡ volume.old.state) }
     ensures same { IsReadAs volume.old.state volume.new.state }
-    ensures agreed { IsTrue volume.new.agreed → IsTrue volume.old.agreed }
+    ensures reads { Follow volume.old.reads volume.new.reads }
+    ensures reads_tell { IfErr result (IsRefusalOfReads volume.old.reads volume.new.reads) }
     ensures loaded { volume.new.loaded ≡ volume.old.loaded }
     ensures looks { RisesAtMost volume.old.looks volume.new.looks
         (edit_looks volume.old.state edit.now) }
-    ensures moved { IfOk result (λ done. IsTrue volume.new.agreed → done.0
+    ensures moved { IfOk result (λ done. HaveAgreed volume.new.reads → done.0
         ≡ has_moved volume.old.state edit.now volume.new.state) }
-    ensures told { IfOk result (λ done. IsTrue volume.new.agreed → done.1
+    ensures told { IfOk result (λ done. HaveAgreed volume.new.reads → done.1
         ≡ told_of volume.old.state edit.now) }
     ensures memory { Rises (IsErrOf result Refusal.OutOfMemory) room.old room.new }
 {

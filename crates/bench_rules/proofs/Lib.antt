@@ -4,6 +4,7 @@ pub mod HeaderEditLemmas
 pub mod DeclareLemmas
 pub mod AcceptedLemmas
 pub mod WholeTraceLemmas
+pub mod NoReadLemmas
 pub mod PatchLemmas
 pub mod ValueLemmas
 pub mod TraceStepLemmas
@@ -39,5 +40,6 @@ pub mod ToldLemmas
 pub mod TestLemmas
 pub mod TestTermLemmas
 pub mod MemoryLemmas
+pub mod ReadTellLemmas
 pub mod EditMemoryLemmas
 pub mod LackLemmas

@@ -18,7 +18,7 @@ module _ {T : Type 0} where
         payloads_prepared = more.payloads_prepared ∙ before.payloads_prepared;
         loaded = more.loaded ∙ before.loaded;
         looks = (omega (arith, one, other), omega (arith, one, other));
-        agreed = λ sure. before.agreed (more.agreed sure);
+        reads = record { agreed = λ sure. before.reads.agreed (more.reads.agreed sure); failures = omega (arith, before.reads.failures, more.reads.failures) };
       }
 
 -- ---- results

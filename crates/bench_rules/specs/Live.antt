@@ -1,5 +1,6 @@
 -- What a volume's running reports and kept slices hold, whatever edits there were: what its traces give as they are now.
 use Rattle.std.specs.Prelude.{◌≡◌, ℕ, ℤ, Bool, List, map, Option, Result, Ok, Err}
+use Rattle.edit_overlay.specs.Reads.{Reads}
 use Rattle.trace_record.specs.Facts.{facts_of}
 use Rattle.trace_record.specs.declared.record.Record.{Record}
 use Rattle.trace_record.specs.Keys.{cell}
@@ -56,13 +57,13 @@ AreTriplesOf s triples = Same (tally_of_faults triples) (tally_of keys_of_faults
 abbrev pub AreSlicesOf : State → Cache → Type 0
 AreSlicesOf s cache = AreRight s.volume.head s.fields s.volume.traces cache
 
--- a state, how often traces were looked at, the bytes that the load read, whether each read of them since gave the same,
--- and the numbers of the slices that are kept, the last asked first
+-- a state, how often traces were looked at, the bytes that the load read, what is known of the reads of them since, and the
+-- numbers of the slices that are kept, the last asked first
 pub record LiveSession : Type 0 where
   pub state : State
   pub looks : ℕ
   pub loaded : List ℕ
-  pub agreed : Bool
+  pub reads : Reads
   pub kept : List ℕ
 
 -- the numbers kept after a call: as they were, where it was refused

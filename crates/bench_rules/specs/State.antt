@@ -1,5 +1,6 @@
 -- A volume under edits, with all that its answers depend on.
 use Rattle.std.specs.Prelude.{ℕ, Bool, List}
+use Rattle.edit_overlay.specs.Reads.{Reads}
 use Rattle.field_map.specs.Pairs.{Pairs}
 use Rattle.frame_cut.specs.declared.limits.Limits.{Limits}
 use Rattle.frame_cut.specs.declared.reading.Reading.{Reading}
@@ -14,10 +15,9 @@ pub record State : Type 0 where
   pub limits : Limits
   pub on_disk : Bool
 
--- a state, how often traces were looked at, the bytes that the load read, and whether each read of them since gave the
--- same; in memory it does
+-- a state, how often traces were looked at, the bytes that the load read, and what is known of the reads of them since
 pub record Session : Type 0 where
   pub state : State
   pub looks : ℕ
   pub loaded : List ℕ
-  pub agreed : Bool
+  pub reads : Reads

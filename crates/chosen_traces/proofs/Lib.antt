@@ -7,3 +7,4 @@ mod RecordLemmas
 mod BesideLemmas
 mod ToldLemmas
 mod RangeLemmas
+mod RefusedLemmas

@@ -25,13 +25,13 @@ pub looks_chosen : (v : Volume) (pairs : Pairs) (c : Chosen) (q : ChosenQuery) (
 looks_chosen v pairs c q ps e = ap (λ o. choosing_looks v pairs c + looks_at_chosen (asking_looks q) o) e
 
 -- more traces are no fewer looks
-asking-more : (q : ChosenQuery) (n m : ℕ) → n ≤ m → asking_looks q n ≤ asking_looks q m
-asking-more about.Count n m less = omega arith
-asking-more (about.Table fields) n m less = less
-asking-more (about.Find field low high) n m less = less
-asking-more about.Extremes n m less = less
-asking-more about.Stats n m less = less
-asking-more (about.Samples range) n m less = omega arith
+pub asking_more : (q : ChosenQuery) (n m : ℕ) → n ≤ m → asking_looks q n ≤ asking_looks q m
+asking_more about.Count n m less = omega arith
+asking_more (about.Table fields) n m less = less
+asking_more (about.Find field low high) n m less = less
+asking_more about.Extremes n m less = less
+asking_more about.Stats n m less = less
+asking_more (about.Samples range) n m less = omega arith
 
 -- what is told where the traces of the range are there
 abbrev after_range : Volume → Pairs → Chosen → ChosenQuery → Reply
@@ -98,7 +98,7 @@ module _ (s : State) (v : Volume) (pairs : Pairs) (c : Chosen) (q : ChosenQuery)
           → IfErr r (λ fault. (fault ≡ OutOfMemory) ⊎ (IsReadFault on_disk fault × (0 < asking_looks q (length ps))) ⊎ (P → answer_of_each v pairs q ps ≡ Err fault)) → IsReply s (OfChosen c q) r
       each_told (Ok a) ok err = inl (sym (answered ∙ ok sure))
       each_told (Err fault) ok (inl is) = subst (λ (f : AskFault). IsReply s (OfChosen c q) (Err f)) (sym is) (wants free)
-      each_told (Err fault) ok (inr (inl read)) = fails on_disk fault disk (let most = asking-more q (length ps) (most_chosen v pairs c) few in omega (arith, read.1, most)) read.0
+      each_told (Err fault) ok (inr (inl read)) = fails on_disk fault disk (let most = asking_more q (length ps) (most_chosen v pairs c) few in omega (arith, read.1, most)) read.0
       each_told (Err fault) ok (inr (inr is)) = inl (sym (answered ∙ is sure))
 
       -- the same, told of the volume as it is after the choice

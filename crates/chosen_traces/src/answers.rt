@@ -1,9 +1,10 @@
 // The answers to queries about the traces that conditions choose.
-ghost use Rattle.std.specs.Prelude.{◌≡◌, ◌⊎◌, ◌+◌, ◌<◌, None, Ok, Err, IsTrue, IfOk, IfErr, length, map as map_of, IsErrOf, ◌≢◌};
+ghost use Rattle.std.specs.Prelude.{◌≡◌, ◌⊎◌, ◌+◌, ◌<◌, None, Ok, Err, IfOk, IfErr, length, map as map_of, IsErrOf, ◌≢◌};
 ghost use Rattle.room.specs.Refusals.{Rises};
 ghost use Rattle.frame_cut.specs.Traces.{count_of};
 ghost use Rattle.trace_record.specs.Packed.{record_in};
 ghost use Rattle.edit_overlay.specs.CountedVolume.{IsSeen, RisesAtMost};
+ghost use Rattle.edit_overlay.specs.Reads.{HaveAgreed};
 ghost use Rattle.bench_rules.specs.declared.ask_fault.AskFault.TheVariants.{OutOfMemory as no_memory};
 ghost use Rattle.bench_rules.specs.declared.query.Query.TheVariants as queries;
 ghost use Rattle.bench_rules.specs.Answer.{IsReply, Reply};
@@ -14,7 +15,7 @@ ghost use Rattle.bench_rules.specs.Looks.{asking_looks, chosen_query_looks, most
 ghost use Rattle.bench_rules.specs.Places.{place_in_trace as place_of_field};
 ghost use Rattle.bench_rules.specs.RangeFaults.{or_fault};
 ghost use Rattle.bench_rules.specs.RangeRefusals.{range_refusal};
-ghost use Rattle.bench_rules.specs.ReadFaults.{IsReadFault};
+ghost use Rattle.bench_rules.specs.ReadFaults.{IsFaultOfReads, IsReadFault};
 ghost use Rattle.bench_rules.specs.Sections.{section_answer_of_each};
 ghost use Rattle.bench_rules.specs.State.{State};
 ghost use Rattle.chosen_traces.specs.RecordTests.{HasRecords};
@@ -45,14 +46,15 @@ pub fn chosen_answer(
     query: &ChosenQuery,
 ) -> Result<Answer, AskFault>
     ensures reply { (s : State) → s.volume ≡ overlay.old.volume → s.fields ≡ map.now.pairs →
-        s.on_disk ≡ overlay.old.loaded.on_disk → IsTrue overlay.new.agreed →
+        s.on_disk ≡ overlay.old.loaded.on_disk → HaveAgreed overlay.new.reads →
         AreRecordsOf s (map_of record_in overlay.old.payloads) →
         IsReply s (queries.OfChosen chosen.now query.now) result }
+    ensures reads_tell { IfErr result (IsFaultOfReads overlay.old.reads overlay.new.reads) }
 
     // Where the reads do not agree, others may have been chosen, but none that is not of the range.
     ensures seen { IsSeen overlay.old overlay.new
         (most_query_looks overlay.old.volume map.now.pairs chosen.now query.now) }
-    ensures looks { IsTrue overlay.new.agreed → HasRecords overlay.old map.now.pairs →
+    ensures looks { HaveAgreed overlay.new.reads → HasRecords overlay.old map.now.pairs →
         RisesAtMost overlay.old.looks overlay.new.looks
         (chosen_query_looks overlay.old.volume map.now.pairs chosen.now query.now) }
     ensures memory { Rises (IsErrOf result AskFault.OutOfMemory) room.old room.new }
@@ -103,13 +105,14 @@ fn told(
     query: &ChosenQuery,
 ) -> Result<Answer, AskFault>
     requires { AreRising 1 (count_of overlay.old.volume) traces.items }
-    ensures ok { IfOk result (λ answer. IsTrue overlay.new.agreed → answer_of_each
+    ensures ok { IfOk result (λ answer. HaveAgreed overlay.new.reads → answer_of_each
         overlay.old.volume map.now.pairs query.now traces.items ≡ Ok answer) }
     ensures err { IfErr result (λ fault. (fault ≡ no_memory) ⊎
         (IsReadFault overlay.old.loaded.on_disk fault
         × (0 < asking_looks query.now (length traces.items))) ⊎
-        (IsTrue overlay.new.agreed → answer_of_each overlay.old.volume map.now.pairs query.now
+        (HaveAgreed overlay.new.reads → answer_of_each overlay.old.volume map.now.pairs query.now
         traces.items ≡ Err fault)) }
+    ensures reads_tell { IfErr result (IsFaultOfReads overlay.old.reads overlay.new.reads) }
     ensures seen { IsSeen overlay.old overlay.new (asking_looks query.now (length traces.items)) }
     ensures memory { Rises (IsErrOf result AskFault.OutOfMemory) room.old room.new }
 {
@@ -166,13 +169,14 @@ fn found(
     high: i128,
 ) -> Result<Answer, AskFault>
     requires { AreRising 1 (count_of overlay.old.volume) traces.now }
-    ensures ok { IfOk result (λ answer. IsTrue overlay.new.agreed → found_answer_of_each
+    ensures ok { IfOk result (λ answer. HaveAgreed overlay.new.reads → found_answer_of_each
         overlay.old.volume traces.now low high (place_of_field map.now.pairs field.now)
         ≡ Ok answer) }
     ensures err { IfErr result (λ fault. (fault ≡ no_memory) ⊎
         (IsReadFault overlay.old.loaded.on_disk fault × (0 < length traces.now)) ⊎
-        (IsTrue overlay.new.agreed → found_answer_of_each overlay.old.volume traces.now low high
+        (HaveAgreed overlay.new.reads → found_answer_of_each overlay.old.volume traces.now low high
         (place_of_field map.now.pairs field.now) ≡ Err fault)) }
+    ensures reads_tell { IfErr result (IsFaultOfReads overlay.old.reads overlay.new.reads) }
     ensures seen { IsSeen overlay.old overlay.new (length traces.now) }
     ensures memory { Rises (IsErrOf result AskFault.OutOfMemory) room.old room.new }
 {

@@ -5,11 +5,12 @@ ghost use Rattle.room.specs.Refusals.{Rises};
 ghost use Rattle.field_map.specs.Pairs.{Pairs};
 ghost use Rattle.frame_cut.specs.Traces.{count_of, is_trace, trace_at};
 ghost use Rattle.edit_overlay.specs.CountedVolume.{IsSeen};
+ghost use Rattle.edit_overlay.specs.Reads.{HaveAgreed, IsFaultOfLook};
 ghost use Rattle.bench_rules.specs.declared.ask_fault.AskFault.TheVariants.{NoField as no_field, NoPlace as no_place, OutOfMemory as no_memory};
 ghost use Rattle.bench_rules.specs.Conditions.{asked_tests as asked_tests_of, chosen as chosen_traces, chosen_among, meets_by, tests_of as tests_of_conditions, AreRising};
 ghost use Rattle.bench_rules.specs.Looks.{choosing_looks, most_chosen};
 ghost use Rattle.bench_rules.specs.RangeRefusals.{range_refusal};
-ghost use Rattle.bench_rules.specs.ReadFaults.{IsReadFault};
+ghost use Rattle.bench_rules.specs.ReadFaults.{IsFaultOfReads, IsReadFault};
 ghost use Rattle.bench_rules.specs.RecordNumbers.{tells_tests};
 ghost use Rattle.chosen_traces.specs.Choosing.{choosing_fault, fault_under};
 ghost use Rattle.chosen_traces.specs.RecordTests.{amplitudes_if, HasRecords};
@@ -37,7 +38,7 @@ pub fn choose(
     chosen: &Chosen,
 ) -> Result<Vec<u32>, AskFault>
     requires { range_refusal overlay.old.volume chosen.now.traces ≡ None }
-    ensures ok { IfOk result (λ traces. IsTrue overlay.new.agreed →
+    ensures ok { IfOk result (λ traces. HaveAgreed overlay.new.reads →
         HasRecords overlay.old map.now.pairs →
         chosen_traces overlay.old.volume map.now.pairs chosen.now ≡ Some traces.items) }
     ensures rising { IfOk result (λ traces. AreRising 1 (count_of overlay.old.volume)
@@ -47,8 +48,9 @@ pub fn choose(
     ensures err { IfErr result (λ fault. (fault ≡ no_memory) ⊎
         (IsReadFault overlay.old.loaded.on_disk fault
         × (0 < choosing_looks overlay.old.volume map.now.pairs chosen.now)) ⊎
-        (IsTrue overlay.new.agreed →
+        (HaveAgreed overlay.new.reads →
         choosing_fault overlay.old.volume map.now.pairs chosen.now ≡ Some fault)) }
+    ensures reads_tell { IfErr result (IsFaultOfReads overlay.old.reads overlay.new.reads) }
     ensures seen { IsSeen overlay.old overlay.new
         (choosing_looks overlay.old.volume map.now.pairs chosen.now) }
     ensures memory { Rises (IsErrOf result AskFault.OutOfMemory) room.old room.new }
@@ -76,15 +78,16 @@ fn chosen_of(
     requires first { 1 ≤ a }
     requires range { a ≤ b }
     requires last { b ≤ count_of overlay.old.volume }
-    ensures ok { IfOk result (λ traces. IsTrue overlay.new.agreed →
+    ensures ok { IfOk result (λ traces. HaveAgreed overlay.new.reads →
         HasRecords overlay.old map.now.pairs → chosen_among overlay.old.volume tests.now
         (range_with_len a (b + 1 - a)) ≡ Some traces.items) }
     ensures rising { IfOk result (λ traces. AreRising a b traces.items) }
     ensures err { IfErr result (λ fault. (fault ≡ no_memory) ⊎
         (IsReadFault overlay.old.loaded.on_disk fault
         × (tells_tests map.now.pairs tests.now ≡ false)) ⊎
-        ((fault ≡ no_place) × (IsTrue overlay.new.agreed → chosen_among overlay.old.volume
+        ((fault ≡ no_place) × (HaveAgreed overlay.new.reads → chosen_among overlay.old.volume
         tests.now (range_with_len a (b + 1 - a)) ≡ None))) }
+    ensures reads_tell { IfErr result (IsFaultOfReads overlay.old.reads overlay.new.reads) }
     ensures seen { IsSeen overlay.old overlay.new
         (if tells_tests map.now.pairs tests.now then 0 else b + 1 - a) }
     ensures memory { Rises (IsErrOf result AskFault.OutOfMemory) room.old room.new }
@@ -169,14 +172,15 @@ fn chosen_from(
     requires first { 1 ≤ a }
     requires range { a ≤ b }
     requires last { b ≤ count_of overlay.old.volume }
-    ensures ok { IfOk result (λ traces. (fields : Pairs) → IsTrue overlay.new.agreed →
+    ensures ok { IfOk result (λ traces. (fields : Pairs) → HaveAgreed overlay.new.reads →
         HasRecords overlay.old fields → chosen_among overlay.old.volume tests.now
         (range_with_len a (b + 1 - a)) ≡ Some traces.items) }
     ensures rising { IfOk result (λ traces. AreRising a b traces.items) }
     ensures err { IfErr result (λ fault. (fault ≡ no_memory) ⊎
         IsReadFault overlay.old.loaded.on_disk fault ⊎
-        ((fault ≡ no_place) × (IsTrue overlay.new.agreed → chosen_among overlay.old.volume
+        ((fault ≡ no_place) × (HaveAgreed overlay.new.reads → chosen_among overlay.old.volume
         tests.now (range_with_len a (b + 1 - a)) ≡ None))) }
+    ensures reads_tell { IfErr result (IsFaultOfReads overlay.old.reads overlay.new.reads) }
     ensures seen { IsSeen overlay.old overlay.new (b + 1 - a) }
     ensures memory { Rises (IsErrOf result AskFault.OutOfMemory) room.old room.new }
 {
@@ -218,11 +222,12 @@ fn judged(
     beside: bool,
 ) -> Result<Option<bool>, ReadFault>
     requires { IsTrue (is_trace overlay.old.volume p) }
-    ensures told { IfOk result (λ told. IsTrue overlay.new.agreed → told ≡ meets_by
+    ensures told { IfOk result (λ told. HaveAgreed overlay.new.reads → told ≡ meets_by
         overlay.old.volume.head (trace_at overlay.old.volume p)
         (amplitudes_if beside overlay.old.payloads p) tests.now) }
     ensures seen { IsSeen overlay.old overlay.new 1 }
     ensures read { IfErr result (λ _. IsTrue overlay.old.loaded.on_disk) }
+    ensures reads_tell { IfErr result (IsFaultOfLook overlay.old.reads overlay.new.reads) }
 {
     let amplitudes = amplitudes_of(overlay, p, beside);
     let Some(trace) = overlay.look(p)? else {

@@ -4,10 +4,11 @@ use Rattle.base_file.specs.HeldBytes.{HeldBytes, Falls}
 use Rattle.base_file.proofs.HeldLemmas.{Falls-refl}
 use Rattle.frame_cut.specs.Volume.{Volume, bytes_of}
 use Rattle.trace_store.specs.Ahead.{traces_ahead}
-use Rattle.edit_overlay.specs.CountedVolume.{CountedVolume, with_agreed}
+use Rattle.edit_overlay.specs.CountedVolume.{CountedVolume, with_reads}
 use Rattle.edit_overlay.specs.Held.{looked_of, volume_ahead, volume_with, IsHeld, IsReread}
 use Rattle.edit_overlay.specs.Loaded.{Loaded}
-use Rattle.edit_overlay.specs.Standings.{is_sure, loaded_in}
+use Rattle.edit_overlay.specs.Standings.{loaded_in, reads_in}
+use Rattle.edit_overlay.specs.Reads.{Reads}
 use Rattle.trace_store.specs.Stores.{payloads_ahead, payloads_of, traces_of}
 use Rattle.trace_store.specs.declared.prepared.Prepared.{Prepared}
 use Rattle.trace_store.specs.declared.store.TraceStore.{TraceStore}
@@ -16,7 +17,7 @@ use Rattle.edit_overlay.specs.declared.overlay.Overlay.TheInside.{Inside}
 use Rattle.trace_store.proofs.AheadLemmas.{ahead_kept, ready_kept, IsSame}
 use Rattle.trace_store.proofs.FallLemmas.{same_fetched}
 use Rattle.trace_store.proofs.LengthLemmas.{total, length-with}
-use Rattle.edit_overlay.proofs.StandingLemmas.{on_disk_stays}
+use Rattle.edit_overlay.proofs.StandingLemmas.{lends_still, on_disk_stays}
 
 -- what follows from success and from failure alike
 pub settle : {T E : Type 0} (r : Result T E) {A B C : Type 0} → OnOk r A → OnErr r B → (A → C) → (B → C) → C
@@ -50,6 +51,7 @@ module _ {T : Type 0} where
           front_kept = rw (over.head, over.loaded) held.ends.front_kept;
           back_kept = rw (over.head, over.loaded) held.ends.back_kept;
         };
+        lends = rw over.loaded held.lends;
         text = held.text;
         bin = held.bin;
         prepared = tt;
@@ -69,18 +71,18 @@ module _ {T : Type 0} where
       let w : volume_ahead o.text o.bin o.tail t o.laid.prepared ≡ volume_ahead o.text o.bin o.tail o.laid.store o.laid.prepared =
       ap (λ (x : Volume). record x { traces = traces_ahead t o.laid.prepared }) v ∙ ap (λ (ts : List (List ℕ)). record s { traces = ts }) (ahead_kept o.laid.store t o.laid.prepared same) in
       let first : looked_of (record o { laid = record o.laid { store = t } }) ≡ record (looked_of (record o { laid = record o.laid { store = t } })) { volume = s } = ap (λ (x : Volume). record (looked_of (record o { laid = record o.laid { store = t } })) { volume = x }) v in
-      let second : record (looked_of (record o { laid = record o.laid { store = t } })) { volume = s } ≡ record (looked_of o) { payloads = payloads_of t; payloads_prepared = payloads_ahead (payloads_of t) o.laid.prepared; loaded = loaded_in t.loaded; agreed = is_sure t.loaded.standing } =
-      ap (λ (x : Volume). record (looked_of o) { prepared = x; payloads = payloads_of t; payloads_prepared = payloads_ahead (payloads_of t) o.laid.prepared; loaded = loaded_in t.loaded; agreed = is_sure t.loaded.standing }) w in
-      let third : record (looked_of o) { payloads = payloads_of t; payloads_prepared = payloads_ahead (payloads_of t) o.laid.prepared; loaded = loaded_in t.loaded; agreed = is_sure t.loaded.standing } ≡ record (looked_of o) { payloads = payloads_of t; payloads_prepared = payloads_ahead (payloads_of t) o.laid.prepared } =
-      ap (λ (l : HeldBytes). record (looked_of o) { payloads = payloads_of t; payloads_prepared = payloads_ahead (payloads_of t) o.laid.prepared; loaded = loaded_in l; agreed = is_sure l.standing }) over.loaded in
+      let second : record (looked_of (record o { laid = record o.laid { store = t } })) { volume = s } ≡ record (looked_of o) { payloads = payloads_of t; payloads_prepared = payloads_ahead (payloads_of t) o.laid.prepared; loaded = loaded_in t.loaded; reads = reads_in t.loaded } =
+      ap (λ (x : Volume). record (looked_of o) { prepared = x; payloads = payloads_of t; payloads_prepared = payloads_ahead (payloads_of t) o.laid.prepared; loaded = loaded_in t.loaded; reads = reads_in t.loaded }) w in
+      let third : record (looked_of o) { payloads = payloads_of t; payloads_prepared = payloads_ahead (payloads_of t) o.laid.prepared; loaded = loaded_in t.loaded; reads = reads_in t.loaded } ≡ record (looked_of o) { payloads = payloads_of t; payloads_prepared = payloads_ahead (payloads_of t) o.laid.prepared } =
+      ap (λ (l : HeldBytes). record (looked_of o) { payloads = payloads_of t; payloads_prepared = payloads_ahead (payloads_of t) o.laid.prepared; loaded = loaded_in l; reads = reads_in l }) over.loaded in
       first ∙ (second ∙ (third ∙ ap (λ (ps : List T). record (looked_of o) { payloads = ps; payloads_prepared = payloads_ahead ps o.laid.prepared }) same.payloads))
 
 -- ---- the loaded bytes were read again
 
 -- two shown volumes of the same parts are one
-same_parts : {T : Type 0} (v v' w w' : Volume) (n : ℕ) (ps ps' qs qs' : List T) (d d' : Loaded) (a : Bool) → v ≡ v' → w ≡ w' → ps ≡ ps' → qs ≡ qs' → d ≡ d'
-    → (let x : CountedVolume T = record { volume = v; prepared = w; looks = n; payloads = ps; payloads_prepared = qs; loaded = d; agreed = a } in x)
-    ≡ record { volume = v'; prepared = w'; looks = n; payloads = ps'; payloads_prepared = qs'; loaded = d'; agreed = a }
+same_parts : {T : Type 0} (v v' w w' : Volume) (n : ℕ) (ps ps' qs qs' : List T) (d d' : Loaded) (a : Reads) → v ≡ v' → w ≡ w' → ps ≡ ps' → qs ≡ qs' → d ≡ d'
+    → (let x : CountedVolume T = record { volume = v; prepared = w; looks = n; payloads = ps; payloads_prepared = qs; loaded = d; reads = a } in x)
+    ≡ record { volume = v'; prepared = w'; looks = n; payloads = ps'; payloads_prepared = qs'; loaded = d'; reads = a }
 same_parts v v' w w' n ps ps' qs qs' d d' a e f g h i = cc
 
 -- the same bytes at the same place are what was loaded
@@ -108,17 +110,18 @@ module _ {T : Type 0} (o : Inside T) (t : TraceStore T) (reread : IsReread o.lai
       front_kept = rw (reread.head, reread.loaded.front) held.ends.front_kept;
       back_kept = rw (reread.head, reread.loaded.back) held.ends.back_kept;
     };
+    lends = lends_still o.laid.store.loaded t.loaded reread.loaded held.lends;
     text = held.text;
     bin = held.bin;
     prepared = ready_kept o.laid.store t o.laid.prepared same_reread held.prepared;
     length = held.length ∙ ap (λ (v : Volume). length (bytes_of v)) (sym volume_reread);
   }
 
-  -- and shows the same, but that reads may no longer agree
-  pub shown_reread : looked_of (record o { laid = record o.laid { store = t } }) ≡ with_agreed (looked_of o) (is_sure t.loaded.standing)
+  -- and shows the same, but for the reads
+  pub shown_reread : looked_of (record o { laid = record o.laid { store = t } }) ≡ with_reads (looked_of o) (reads_in t.loaded)
   shown_reread =
       let payloads : payloads_of t ≡ payloads_of o.laid.store = same_reread.payloads in
-      same_parts _ _ _ _ o.looks _ _ _ _ _ _ (is_sure t.loaded.standing) volume_reread ahead_reread payloads (ap (λ (ps : List T). payloads_ahead ps o.laid.prepared) payloads)
+      same_parts _ _ _ _ o.looks _ _ _ _ _ _ (reads_in t.loaded) volume_reread ahead_reread payloads (ap (λ (ps : List T). payloads_ahead ps o.laid.prepared) payloads)
       (same_loaded _ _ _ _ reread.loaded.bytes (on_disk_stays o.laid.store.loaded.standing t.loaded.standing reread.loaded.standing))
 
 -- the same, where what is laid over the store stands beside it as it did
@@ -126,6 +129,6 @@ module _ {T : Type 0} (o : Inside T) (l : Laid T) (reread : IsReread o.laid.stor
   pub held_relaid : IsHeld o → IsHeld (record o { laid = l })
   held_relaid held = subst (λ (p : Option Prepared). IsHeld (record o { laid = record { store = l.store; prepared = p } })) (sym kept) (held_reread o l.store reread held)
 
-  pub shown_relaid : looked_of (record o { laid = l }) ≡ with_agreed (looked_of o) (is_sure l.store.loaded.standing)
+  pub shown_relaid : looked_of (record o { laid = l }) ≡ with_reads (looked_of o) (reads_in l.store.loaded)
   shown_relaid =
-      subst (λ (p : Option Prepared). looked_of (record o { laid = record { store = l.store; prepared = p } }) ≡ with_agreed (looked_of o) (is_sure l.store.loaded.standing)) (sym kept) (shown_reread o l.store reread)
+      subst (λ (p : Option Prepared). looked_of (record o { laid = record { store = l.store; prepared = p } }) ≡ with_reads (looked_of o) (reads_in l.store.loaded)) (sym kept) (shown_reread o l.store reread)

@@ -2,29 +2,41 @@
 use Rattle.std.proofs.Common.{◌≡◌, ℕ, ◌-◌, List, [], length, ap, ◌∙◌, subst, IsTrue, Option, Result, Err}
 use Rattle.std.specs.Prelude.{slice_index_or, IsOk}
 use Rattle.base_file.specs.HeldBytes.{IsInMemory, IsSure}
+use Rattle.base_file.specs.declared.read_fault.ReadFault.{ReadFault}
 use Rattle.frame_cut.specs.Volume.{Volume}
 use Rattle.trace_view.specs.declared.view.TraceView.{TraceView}
 use Rattle.trace_view.specs.Shown.{head_of, bytes_of}
 use Rattle.trace_store.specs.declared.prepared.Prepared.{Prepared}
 use Rattle.trace_store.specs.Ahead.{traces_ahead}
+use Rattle.trace_store.specs.Faults.{IsFaultOfFetch}
 use Rattle.trace_store.specs.Stores.{traces_of}
 use Rattle.trace_store.proofs.AheadLemmas.{ahead_kept}
-use Rattle.edit_overlay.specs.CountedVolume.{CountedVolume, after_look, with_agreed, HasShapeOf}
-use Rattle.edit_overlay.specs.Held.{looked_of, IsReread}
-use Rattle.edit_overlay.specs.Looks.{HasLooked, HasShown}
-use Rattle.edit_overlay.specs.Standings.{is_sure}
+use Rattle.edit_overlay.specs.CountedVolume.{CountedVolume, after_look, with_reads, HasShapeOf}
+use Rattle.edit_overlay.specs.Held.{looked_of, CanLend, IsReread}
+use Rattle.edit_overlay.specs.Looks.{HasMissed, HasShown}
+use Rattle.edit_overlay.specs.Reads.{Follow, IsFaultOfLook}
+use Rattle.edit_overlay.specs.Standings.{reads_in}
 use Rattle.edit_overlay.specs.declared.laid.Laid.{Laid}
 use Rattle.edit_overlay.specs.declared.overlay.Overlay.TheInside.{Inside}
 use Rattle.edit_overlay.proofs.HeldLemmas.{same_reread, shown_relaid}
-use Rattle.edit_overlay.proofs.StandingLemmas.{agreed_before, on_disk_else, refused_in_memory, sure_is}
+use Rattle.edit_overlay.proofs.StandingLemmas.{fault_told, on_disk_else, reads_follow, refused_in_memory, sure_is}
 
 -- the look was counted, and then the loaded bytes were read
-module _ {T : Type 0} (o : CountedVolume T) (i : Inside T) (l : Laid T) (reread : IsReread i.laid.store l.store) (kept : l.prepared ≡ i.laid.prepared) (counted : looked_of i ≡ after_look o o.agreed) where
+module _ {T : Type 0} (o : CountedVolume T) (i : Inside T) (l : Laid T) (reread : IsReread i.laid.store l.store) (kept : l.prepared ≡ i.laid.prepared) (counted : looked_of i ≡ after_look o o.reads) where
   -- nothing else is changed
-  pub has_looked : HasLooked o (looked_of (record i { laid = l }))
-  has_looked = record {
-    looked = shown_relaid i l reread kept ∙ ap (λ (x : CountedVolume T). with_agreed x (is_sure l.store.loaded.standing)) counted;
-    agreed = λ sure. subst (λ (x : CountedVolume T). IsTrue x.agreed) counted (agreed_before i.laid.store.loaded.standing l.store.loaded.standing reread.loaded.standing sure);
+  looked_so : looked_of (record i { laid = l }) ≡ after_look o (reads_in l.store.loaded)
+  looked_so = shown_relaid i l reread kept ∙ ap (λ (x : CountedVolume T). with_reads x (reads_in l.store.loaded)) counted
+
+  -- and the reads go on
+  reads_on : Follow o.reads (reads_in l.store.loaded)
+  reads_on = subst (λ (x : CountedVolume T). Follow x.reads (reads_in l.store.loaded)) counted (reads_follow i.laid.store.loaded l.store.loaded reread.loaded)
+
+  -- where the look was refused
+  pub has_missed : (fault : ReadFault) → CanLend i.laid.store.loaded → IsFaultOfFetch i.laid.store.loaded l.store.loaded fault → HasMissed o (looked_of (record i { laid = l })) fault
+  has_missed fault lends told = record {
+    looked = looked_so;
+    reads = reads_on;
+    fault = subst (λ (x : CountedVolume T). IsFaultOfLook x.reads (reads_in l.store.loaded) fault) counted (fault_told i.laid.store.loaded l.store.loaded fault lends told);
   }
 
   -- the head and the traces are those of the volume
@@ -45,8 +57,8 @@ module _ {T : Type 0} (o : CountedVolume T) (i : Inside T) (l : Laid T) (reread 
   pub has_shown : (of : Volume) (ts : List (List ℕ)) (p : ℕ) (view : TraceView) → l.store.head ≡ of.head → ts ≡ of.traces → head_of view ≡ l.store.head → (IsSure l.store.loaded.standing → bytes_of view ≡ slice_index_or ts (p - 1) [])
       → HasShown o (looked_of (record i { laid = l })) of p view
   has_shown of ts p view same traces head bytes = record {
-    looked = has_looked.looked;
-    agreed = has_looked.agreed;
+    looked = looked_so;
+    reads = reads_on;
     trace = λ sure. (head ∙ same, bytes (sure_is l.store.loaded.standing sure) ∙ ap (λ (xs : List (List ℕ)). slice_index_or xs (p - 1) []) traces);
   }
 

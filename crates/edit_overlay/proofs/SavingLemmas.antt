@@ -1,6 +1,6 @@
 -- How a save goes on, one part behind another.
 use Rattle.std.proofs.Common.{OnOk, IfErr, IsTrue, Bool, true, false, is_some, ◌*◌, add-one, replicate, Some, None, ◌∷◌, length-take, length-drop, ◌≡◌, ℕ, ◌+◌, ◌-◌, ◌<◌, ◌≤◌, List, [], ◌++◌, length, get_or, take, drop, refl, ap, sym, subst, ◌∙◌, arith, Option, Result, Ok, Err, MatchResult, slice_range, append_assoc, append-nil, length-append}
-use Rattle.std.specs.Prelude.{IsSome, IsSomeAnd}
+use Rattle.std.specs.Prelude.{IfSome, IsSome, IsSomeAnd}
 use Rattle.std.specs.Option.{option_map_or}
 use Rattle.std.proofs.Math.Seq.{take-add, take-append-add, take-suc}
 use Rattle.std.proofs.lemmas.Bool.Decides.{nat_tests}
@@ -9,7 +9,9 @@ use Rattle.std.proofs.lemmas.List.Folds.{concat-append}
 use Rattle.std.specs.List.{concat}
 use Rattle.std.specs.Io.KnownBytes.{Appends}
 use Rattle.slab.specs.Slab.{get}
-use Rattle.base_file.specs.HeldBytes.{Standing, HeldBytes, Falls, IsStill, IsSure}
+use Rattle.base_file.specs.HeldBytes.{HeldBytes, IsStill, IsSure}
+use Rattle.base_file.specs.declared.read_fault.ReadFault.{ReadFault}
+use Rattle.base_file.specs.declared.read_fault.ReadFault.TheVariants.{ReadFailed, Changed, TooLarge}
 use Rattle.base_file.proofs.HeldLemmas.{sure_before, IsStill-refl, IsStill-trans}
 use Rattle.trace_seq.proofs.TimeLemmas.{times-get}
 use Rattle.trace_store.specs.declared.store.TraceStore.{TraceStore}
@@ -27,8 +29,9 @@ use Rattle.frame_cut.specs.Layout.{bytes_at, tail_at}
 use Rattle.frame_cut.specs.Volume.{bytes_of}
 use Rattle.frame_cut.proofs.BlockLemmas.{concat-blocks_of}
 use Rattle.edit_overlay.specs.Held.{HasEnds, volume_with, IsReread}
-use Rattle.edit_overlay.specs.Saving.{Progress, HasCome, GoesOn, Saves, progress}
-use Rattle.edit_overlay.specs.Standings.{is_on_disk}
+use Rattle.edit_overlay.specs.Saving.{Progress, HasCome, GoesOn, IsUnread, Saves, progress}
+use Rattle.edit_overlay.specs.Reads.{IsFaultOfLook}
+use Rattle.edit_overlay.specs.Standings.{is_on_disk, reads_in}
 use Rattle.edit_overlay.proofs.StandingLemmas.{on_disk_stays}
 use Rattle.device_io.specs.Growth.{Appends_more}
 
@@ -217,24 +220,50 @@ stops_here old at bytes fault e some start all h =
     ap (λ (s : List ℕ). take fault.written s) whole ∙ take-append-le fault.written h.taken (at.waits ++ bytes) (omega (arith, n)) ∙ take_all fault.written h.taken (omega (arith, n)) in
     rw cut (h.appended, omega (arith, n, some, ap (λ (s : List ℕ). length s) whole, length-append h.taken (at.waits ++ bytes), length-append at.waits bytes))
 
--- a read fails on disk alone
-pub read_refused : {T : Type 0} (r : Result T SaveFault) (fault : SaveFault) (old new : Standing) → r ≡ Err fault → Falls old new → (IsSome fault.read → IsTrue (is_on_disk new)) → IfErr r (λ fault. IsSome fault.read → IsTrue (is_on_disk old))
-read_refused r fault old new e falls h = rw e (λ some. subst IsTrue (on_disk_stays old new falls) (h some))
-
-pub read_over : {T : Type 0} (r : Result T SaveFault) (old new : Standing) → Falls old new → IfErr r (λ fault. IsSome fault.read → IsTrue (is_on_disk new)) → IfErr r (λ fault. IsSome fault.read → IsTrue (is_on_disk old))
-read_over (Ok x) old new falls h = tt
-read_over (Err fault) old new falls h = λ some. subst IsTrue (on_disk_stays old new falls) (h some)
-
 never : false ≡ true → ⊥
 never e = cc
 
--- and the writer no read
-pub no_read : (fault : SaveFault) (b : Bool) → fault.read ≡ None → IsSome fault.read → IsTrue b
-no_read fault b none some = absurd (never (sym (ap is_some none) ∙ some))
+-- a read fails on disk alone
+pub fault_before : (old mid new : HeldBytes) (fault : ReadFault) → IsStill old mid → IsFaultOfLook (reads_in mid) (reads_in new) fault → IsFaultOfLook (reads_in old) (reads_in new) fault
+fault_before old mid new ReadFailed still told = omega (arith, still.failures, told)
+fault_before old mid new TooLarge still told = told
+fault_before old mid new Changed still told = told
 
-pub no_reads : {T : Type 0} (r : Result T SaveFault) (b : Bool) → IfErr r (λ fault. fault.read ≡ None) → IfErr r (λ fault. IsSome fault.read → IsTrue b)
-no_reads (Ok x) b h = tt
-no_reads (Err fault) b h = no_read fault b h
+unread_before : (old mid new : HeldBytes) (read : Option ReadFault) → IsStill old mid → IsUnread mid new read → IsUnread old new read
+unread_before old mid new None still h = tt
+unread_before old mid new (Some fault) still h = (subst IsTrue (on_disk_stays old.standing mid.standing still.standing) h.0, fault_before old mid new fault still h.1)
+
+pub read_refused : {T : Type 0} (r : Result T SaveFault) (fault : SaveFault) (old mid new : HeldBytes) → r ≡ Err fault → IsStill old mid → IsUnread mid new fault.read → IfErr r (λ fault. IsUnread old new fault.read)
+read_refused r fault old mid new e still h = rw e (unread_before old mid new fault.read still h)
+
+pub read_over : {T : Type 0} (r : Result T SaveFault) (old mid new : HeldBytes) → IsStill old mid → IfErr r (λ fault. IsUnread mid new fault.read) → IfErr r (λ fault. IsUnread old new fault.read)
+read_over (Ok x) old mid new still h = tt
+read_over (Err fault) old mid new still h = unread_before old mid new fault.read still h
+
+-- what is told where the loaded bytes could not be read
+pub unread_on_disk : {T : Type 0} (r : Result T SaveFault) (old new : HeldBytes) → IfErr r (λ fault. IsUnread old new fault.read) → IfErr r (λ fault. IsSome fault.read → IsTrue (is_on_disk old.standing))
+unread_on_disk (Ok x) old new h = tt
+unread_on_disk (Err fault) old new h = λ some. by fault.read h some
+  where
+    by : (read : Option ReadFault) → IsUnread old new read → IsSome read → IsTrue (is_on_disk old.standing)
+    by None h some = absurd (never some)
+    by (Some why) h some = h.0
+
+pub unread_told : {T : Type 0} (r : Result T SaveFault) (old new : HeldBytes) → IfErr r (λ fault. IsUnread old new fault.read) → IfErr r (λ fault. IfSome fault.read (IsFaultOfLook (reads_in old) (reads_in new)))
+unread_told (Ok x) old new h = tt
+unread_told (Err fault) old new h = by fault.read h
+  where
+    by : (read : Option ReadFault) → IsUnread old new read → IfSome read (IsFaultOfLook (reads_in old) (reads_in new))
+    by None h = tt
+    by (Some why) h = h.1
+
+-- and the writer no read
+pub no_read : (fault : SaveFault) (old new : HeldBytes) → fault.read ≡ None → IsUnread old new fault.read
+no_read fault old new none = rw none tt
+
+pub no_reads : {T : Type 0} (r : Result T SaveFault) (old new : HeldBytes) → IfErr r (λ fault. fault.read ≡ None) → IfErr r (λ fault. IsUnread old new fault.read)
+no_reads (Ok x) old new h = tt
+no_reads (Err fault) old new h = no_read fault old new h
 
 -- ---- a range of the loaded bytes
 

@@ -1,10 +1,11 @@
 -- What an overlay shows: a volume, what it would be with a prepared edit, how often its traces were looked at, the bytes that
--- were loaded, and whether they stand.
-use Rattle.std.specs.Prelude.{ℕ, ◌≡◌, ◌+◌, ◌-◌, ◌≤◌, ◌^◌, Bool, IsTrue, List, length, nat_lt, if◌then◌else◌}
+-- were loaded, and what their reads gave.
+use Rattle.std.specs.Prelude.{ℕ, ◌≡◌, ◌+◌, ◌-◌, ◌≤◌, ◌^◌, List, length, nat_lt, if◌then◌else◌}
 use Rattle.frame_cut.specs.Traces.{trace_at}
 use Rattle.frame_cut.specs.Volume.{Volume}
 use Rattle.trace_store.specs.Each.{put_over}
 use Rattle.edit_overlay.specs.Loaded.{Loaded}
+use Rattle.edit_overlay.specs.Reads.{Reads, Follow}
 use Rattle.trace_view.specs.declared.view.TraceView.{TraceView}
 use Rattle.trace_view.specs.Shown.{head_of, bytes_of}
 
@@ -18,8 +19,8 @@ abbrev pub with_over : Volume → ℕ → (places bytes : List ℕ) → Volume
 with_over v a places bytes = record v { traces = put_over v.traces (a - 1) places bytes }
 
 -- a volume and the payload of each of its traces, both as they would be with the edit that is prepared (the same where
--- none is), how often traces were looked at, the bytes that were loaded and whether they are on disk, and whether each read of
--- them since the load gave the bytes that the load read: in memory it does
+-- none is), how often traces were looked at, the bytes that were loaded and whether they are on disk, and what is known of the
+-- reads of them since
 pub record CountedVolume (T : Type 0) : Type 0 where
   pub volume : Volume
   pub prepared : Volume
@@ -27,7 +28,7 @@ pub record CountedVolume (T : Type 0) : Type 0 where
   pub payloads : List T
   pub payloads_prepared : List T
   pub loaded : Loaded
-  pub agreed : Bool
+  pub reads : Reads
 
 -- the count of looks after one more; it stays at `u64::MAX` once there
 abbrev pub one_more : ℕ → ℕ
@@ -54,15 +55,15 @@ module _ {T : Type 0} where
   abbrev pub with_prepared : CountedVolume T → Volume → CountedVolume T
   with_prepared o v = with_table_prepared o v o.payloads
 
-  -- the same where each read so far agreed, or not
-  abbrev pub with_agreed : CountedVolume T → Bool → CountedVolume T
-  with_agreed o agreed = record o { agreed = agreed }
+  -- the same after these reads
+  abbrev pub with_reads : CountedVolume T → Reads → CountedVolume T
+  with_reads o reads = record o { reads = reads }
 
-  -- the same after one more look, where each read so far agreed, or not
-  abbrev pub after_look : CountedVolume T → Bool → CountedVolume T
-  after_look o agreed = record o { looks = one_more o.looks; agreed = agreed }
+  -- the same after one more look, and these reads
+  abbrev pub after_look : CountedVolume T → Reads → CountedVolume T
+  after_look o reads = record o { looks = one_more o.looks; reads = reads }
 
--- the same volume and payloads after so many looks more at most; what did not agree does not agree now
+-- the same volume and payloads after so many looks more at most
 pub record IsSeen {T : Type 0} (old new : CountedVolume T) (n : ℕ) : Type 0 where
   pub volume : new.volume ≡ old.volume
   pub prepared : new.prepared ≡ old.prepared
@@ -70,7 +71,7 @@ pub record IsSeen {T : Type 0} (old new : CountedVolume T) (n : ℕ) : Type 0 wh
   pub payloads_prepared : new.payloads_prepared ≡ old.payloads_prepared
   pub loaded : new.loaded ≡ old.loaded
   pub looks : RisesAtMost old.looks new.looks n
-  pub agreed : IsTrue new.agreed → IsTrue old.agreed
+  pub reads : Follow old.reads new.reads
 
 -- the view shows trace p of the volume
 abbrev pub IsViewOf : Volume → ℕ → TraceView → Type 0

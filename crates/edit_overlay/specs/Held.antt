@@ -1,6 +1,6 @@
 -- How an overlay holds a volume: its headers beside the loaded file, and the traces over it.
-use Rattle.std.specs.Prelude.{◌≡◌, ◌+◌, ◌-◌, ◌*◌, ◌≤◌, List, ℕ, length, drop, Option, Some, None}
-use Rattle.base_file.specs.HeldBytes.{IsStill}
+use Rattle.std.specs.Prelude.{◌≡◌, ◌+◌, ◌-◌, ◌*◌, ◌<◌, ◌≤◌, List, ℕ, length, drop, Option, Some, None}
+use Rattle.base_file.specs.HeldBytes.{HeldBytes, OnPass, IsInMemory, IsStill}
 use Rattle.text_block.specs.declared.block.TheConstants.{TEXT_BLOCK_BYTES}
 use Rattle.frame_cut.specs.declared.sizes.TheConstants.{BINARY_HEADER_BYTES, FILE_HEADER_BYTES}
 use Rattle.frame_cut.specs.Heads.{blocks_of}
@@ -8,7 +8,7 @@ use Rattle.frame_cut.specs.Layout.{tail_at}
 use Rattle.frame_cut.specs.Volume.{Volume, bytes_of}
 use Rattle.trace_store.specs.Ahead.{traces_ahead, IsReadyIfSome}
 use Rattle.edit_overlay.specs.CountedVolume.{CountedVolume}
-use Rattle.edit_overlay.specs.Standings.{is_sure, loaded_in}
+use Rattle.edit_overlay.specs.Standings.{loaded_in, reads_in}
 use Rattle.trace_store.specs.Fetched.{IsFetched, IsFetchedThen}
 use Rattle.trace_store.specs.declared.prepared.Prepared.{Prepared}
 use Rattle.trace_store.specs.Stores.{payloads_ahead, payloads_of, traces_of}
@@ -40,7 +40,7 @@ looked_of o = record {
   payloads = payloads_of o.laid.store;
   payloads_prepared = payloads_ahead (payloads_of o.laid.store) o.laid.prepared;
   loaded = loaded_in o.laid.store.loaded;
-  agreed = is_sure o.laid.store.loaded.standing;
+  reads = reads_in o.laid.store.loaded;
 }
 
 -- the loaded file has the blocks in front of its traces, and so many bytes of no trace and the data trailer records behind
@@ -58,9 +58,15 @@ pub record IsReread {T : Type 0} (old new : TraceStore T) : Type 0 where
   pub slots : new.slots ≡ old.slots
   pub loaded : IsStill old.loaded new.loaded
 
+-- the pass over the loaded bytes has ended; and where they stay on disk, there is room for one at least
+pub record CanLend (loaded : HeldBytes) : Type 0 where
+  pub passed : ¬ (loaded.standing ≡ OnPass)
+  pub some : ¬ IsInMemory loaded.standing → 0 < loaded.most
+
 -- what holds of an overlay between two calls
 pub record IsHeld {T : Type 0} (o : Inside T) : Type 0 where
   pub ends : HasEnds o.laid.store o.tail
+  pub lends : CanLend o.laid.store.loaded
   pub text : length o.text ≡ TEXT_BLOCK_BYTES
   pub bin : length o.bin ≡ BINARY_HEADER_BYTES
   pub prepared : IsReadyIfSome o.laid.store o.laid.prepared

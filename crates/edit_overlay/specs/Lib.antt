@@ -1,3 +1,4 @@
+pub mod Reads
 pub mod Saving
 pub mod Held
 pub mod CountedVolume

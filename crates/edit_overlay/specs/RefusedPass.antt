@@ -2,7 +2,8 @@
 use Rattle.std.specs.Prelude.{ℕ, List}
 use Rattle.frame_cut.specs.declared.load_fault.LoadFault.{LoadFault}
 
--- a pass that was refused: why, and the bytes that it had read
+-- a pass that was refused: why, the bytes that it had read, and how many reads had failed
 pub record RefusedPass : Type 0 where
   pub fault : LoadFault
   pub read : List ℕ
+  pub failures : ℕ

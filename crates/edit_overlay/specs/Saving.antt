@@ -1,7 +1,11 @@
 -- What a save does to a writer.
-use Rattle.std.specs.Prelude.{ℕ, ◌≡◌, ◌<◌, List, ◌++◌, length, take, slice_range, Option, Result, MatchOption, MatchResult}
+use Rattle.std.specs.Prelude.{ℕ, ◌≡◌, ◌<◌, List, ◌++◌, length, take, slice_range, Option, Some, None, Result, IsTrue, MatchOption, MatchResult}
 use Rattle.device_io.specs.Failures.{one_more}
 use Rattle.std.specs.Io.KnownBytes.{Appends}
+use Rattle.base_file.specs.HeldBytes.{HeldBytes}
+use Rattle.base_file.specs.declared.read_fault.ReadFault.{ReadFault}
+use Rattle.edit_overlay.specs.Reads.{IsFaultOfLook}
+use Rattle.edit_overlay.specs.Standings.{is_on_disk, reads_in}
 use Rattle.edit_overlay.specs.declared.save_fault.SaveFault.{SaveFault}
 use Rattle.edit_overlay.specs.declared.waiting.Waiting.{Waiting}
 
@@ -14,6 +18,12 @@ Saves old new bytes result =
 -- not be read
 abbrev pub CountsSaveFailure : {T : Type 0} → Result T SaveFault → ℕ → ℕ → Type 0
 CountsSaveFailure result old new = MatchResult result (λ _. new ≡ old) (λ fault. MatchOption fault.read (new ≡ one_more old) (λ _. new ≡ old))
+
+-- the loaded bytes could not be read, for this reason: they are on disk, and a read failed meanwhile or they have changed; or
+-- there is none
+abbrev pub IsUnread : (before now : HeldBytes) → Option ReadFault → Type 0
+IsUnread before now None = Unit {0}
+IsUnread before now (Some fault) = IsTrue (is_on_disk before.standing) × IsFaultOfLook (reads_in before) (reads_in now) fault
 
 -- how far a save has come: how many bytes the writer took, and bytes that wait to be written
 pub record Progress : Type 0 where

@@ -1,8 +1,9 @@
 // The traces of a store with the edit that is prepared over them, if one is. Both stand in one
 // place, so that the trace as it would be is lent from there.
-ghost use Rattle.std.specs.Prelude.{◌≡◌, ◌-◌, ◌≤◌, [], length, slice_index_or, IsOk, OnOk};
+ghost use Rattle.std.specs.Prelude.{◌≡◌, ◌-◌, ◌≤◌, [], length, slice_index_or, IfErr, IsOk, OnOk};
 ghost use Rattle.base_file.specs.HeldBytes.{IsInMemory, IsSure};
 ghost use Rattle.trace_store.specs.Ahead.{traces_ahead, IsReadyIfSome};
+ghost use Rattle.trace_store.specs.Faults.{IsFaultOfFetch};
 ghost use Rattle.trace_store.specs.Stores.{traces_of};
 ghost use Rattle.trace_view.specs.Shown.{head_of, bytes_of};
 
@@ -28,6 +29,7 @@ impl<T: Copy> Laid<T> {
         ensures prepared { self.new.prepared ≡ self.old.prepared }
         ensures ready { IsReadyIfSome self.new.store self.new.prepared }
         ensures fetched { OnOk result (IsFetchedAhead self.new.store p self.new.prepared) }
+        ensures fault { IfErr result (IsFaultOfFetch self.old.store.loaded self.new.store.loaded) }
         ensures memory { IsInMemory self.old.store.loaded.standing → IsOk result }
     {
         match &self.prepared {

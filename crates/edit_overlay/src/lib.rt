@@ -29,7 +29,7 @@
 //! contracts can say how often traces were read. Payloads are no look.
 //!
 //! What is claimed of a trace's bytes is claimed where each read since the load gave the bytes that
-//! the load read (`agreed`); lengths, counts and what stays as it was, in any case. Of bytes in
+//! the load read (`HaveAgreed`); lengths, counts and what stays as it was, in any case. Of bytes in
 //! memory nothing is open: they are sure, and no read of them is refused.
 #![tactic(auto)]
 

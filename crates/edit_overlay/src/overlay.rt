@@ -62,10 +62,11 @@ impl<T: Copy> Model for Overlay<T> {
 }
 
 impl<T: Copy> Overlay<T> {
-    ghost use Rattle.edit_overlay.specs.CountedVolume.{after_look, with_agreed, HasShapeOf, IsViewOf};
-    ghost use Rattle.edit_overlay.specs.Held.{volume_with, HasEnds};
+    ghost use Rattle.edit_overlay.specs.CountedVolume.{after_look, with_reads, HasShapeOf, IsViewOf};
+    ghost use Rattle.edit_overlay.specs.Held.{volume_with, CanLend, HasEnds};
     ghost use Rattle.edit_overlay.specs.Looks.{EndsLooked};
-    ghost use Rattle.edit_overlay.specs.Standings.{is_sure, loaded_in};
+    ghost use Rattle.edit_overlay.specs.Reads.{Follow, HaveAgreed, IsFaultOfLook};
+    ghost use Rattle.edit_overlay.specs.Standings.{loaded_in, reads_in};
 
     /// An overlay of the store of a loaded file, with its headers, the number of bytes of no trace
     /// behind the last one, and how often traces were looked at: for one that loads a file. Takes
@@ -78,6 +79,7 @@ impl<T: Copy> Overlay<T> {
         looks: u64,
     ) -> Overlay<T>
         requires ends { HasEnds store tail }
+        requires lends { CanLend store.loaded }
         requires joined { bytes_of (volume_with text bin tail store) ≡ store.loaded.bytes }
         ensures { result ≡ record {
           volume = volume_with text bin tail store;
@@ -87,7 +89,7 @@ impl<T: Copy> Overlay<T> {
           payloads = payloads_of store;
           payloads_prepared = payloads_of store;
           loaded = loaded_in store.loaded;
-          agreed = is_sure store.loaded.standing;
+          reads = reads_in store.loaded;
         } }
     {
         let length = store.loaded.length();
@@ -138,7 +140,7 @@ impl<T: Copy> Overlay<T> {
 
     /// In memory each read agrees. Does nothing: its contract is the law.
     pub fn memory_agrees(&self)
-        ensures { self.now.loaded.on_disk ≡ false → IsTrue self.now.agreed }
+        ensures { self.now.loaded.on_disk ≡ false → HaveAgreed self.now.reads }
     {
         // Read for the proof alone, which learns how the overlay is held.
         let _length = self.length;
@@ -152,8 +154,9 @@ impl<T: Copy> Overlay<T> {
     }
 
     /// Trace p, counted from 1, and one look more; None where there is none, and then no look. On
-    /// disk the trace is read, and refused where the file fails or gives other bytes than it gave
-    /// when it was loaded, as far as its length tells. Takes no memory.
+    /// disk the trace is read, and refused where the file fails, or gives other bytes than it gave
+    /// when it was loaded, as far as its length tells: only where a read failed, or gave others.
+    /// Takes no memory.
     pub fn look(&mut self, p: u32) -> Result<Option<TraceView<'_>>, ReadFault>
         ensures* ends { sem 𝓛 (EndsLooked T.row self.entry self.old.volume p result) }
         ensures there { IfOk result (λ view. IsSome view ↔ IsTrue (is_trace self.old.volume p)) }
@@ -171,7 +174,7 @@ impl<T: Copy> Overlay<T> {
 
     // One look more.
     fn count_look(&mut self)
-        ensures { self.new ≡ after_look self.old self.old.agreed }
+        ensures { self.new ≡ after_look self.old self.old.reads }
     {
         self.looks = self.looks.saturating_add(1);
     }
@@ -337,7 +340,7 @@ impl<T: Copy> Overlay<T> {
         requires first { 1 ≤ p }
         requires last { p ≤ count_of self.old.volume }
         requires inside { at + length bytes.now ≤ length (trace_at self.old.volume p) }
-        requires whole { IsTrue self.old.agreed → IsTrace self.old.volume.head
+        requires whole { HaveAgreed self.old.reads → IsTrace self.old.volume.head
             (splice (trace_at self.old.volume p) at (length bytes.now) bytes.now) }
         ensures ok { OnOk result (self.new ≡ with_prepared self.old (with_trace self.old.volume p
             (splice (trace_at self.old.volume p) at (length bytes.now) bytes.now))) }
@@ -368,7 +371,7 @@ impl<T: Copy> Overlay<T> {
         requires last { a - 1 + length bytes.now / size ≤ count_of self.old.volume }
         requires inside { (k : ℕ) → k < length bytes.now / size →
             at + size ≤ length (slice_index_or self.old.volume.traces (a - 1 + k) []) }
-        requires whole { (k : ℕ) → k < length bytes.now / size → IsTrue self.old.agreed →
+        requires whole { (k : ℕ) → k < length bytes.now / size → HaveAgreed self.old.reads →
             IsTrace self.old.volume.head
             (splice (slice_index_or self.old.volume.traces (a - 1 + k) []) at size
             (part_of bytes.now size k)) }
@@ -399,7 +402,7 @@ impl<T: Copy> Overlay<T> {
         requires last { a - 1 + length places.now ≤ count_of self.old.volume }
         requires inside { (k : ℕ) → k < length places.now → get_or places.now k 0 +
             length bytes.now ≤ length (slice_index_or self.old.volume.traces (a - 1 + k) []) }
-        requires whole { (k : ℕ) → k < length places.now → IsTrue self.old.agreed →
+        requires whole { (k : ℕ) → k < length places.now → HaveAgreed self.old.reads →
             IsTrace self.old.volume.head
             (splice (slice_index_or self.old.volume.traces (a - 1 + k) []) (get_or places.now k 0)
             (length bytes.now) bytes.now) }
@@ -580,6 +583,7 @@ impl<T: Copy> Overlay<T> {
         requires { IsTrue self.loaded.on_disk }
         ensures fault { result.fault ≡ fault }
         ensures read { result.read ≡ self.loaded.bytes }
+        ensures failures { result.failures ≡ self.reads.failures }
     {
         PassFault::of(fault, self.laid.store.loaded)
     }
@@ -592,11 +596,13 @@ impl<T: Copy> Overlay<T> {
     /// where a read of the loaded bytes did; `written` is then the length of the prefix that the
     /// writer took.
     pub fn write_to<W: Write>(&mut self, writer: &mut Sink<W>) -> Result<(), SaveFault>
-        ensures same { self.new ≡ with_agreed self.old self.new.agreed }
-        ensures agreed { IsTrue self.new.agreed → IsTrue self.old.agreed }
-        ensures saved { IsTrue self.new.agreed → Saves (W.contents writer.old.inner)
+        ensures same { self.new ≡ with_reads self.old self.new.reads }
+        ensures reads { Follow self.old.reads self.new.reads }
+        ensures saved { HaveAgreed self.new.reads → Saves (W.contents writer.old.inner)
             (W.contents writer.new.inner) (bytes_of self.old.volume) result }
         ensures read { IfErr result (λ fault. IsSome fault.read → IsTrue self.old.loaded.on_disk) }
+        ensures fault { IfErr result (λ fault. IfSome fault.read (IsFaultOfLook self.old.reads
+            self.new.reads)) }
         ensures failures { CountsSaveFailure result writer.old.failures writer.new.failures }
     {
         // Read for the proof alone, which learns that the file's length fits 64 bits.

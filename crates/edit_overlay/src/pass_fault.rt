@@ -6,12 +6,13 @@ use base_file::{Held, Log};
 use frame_cut::LoadFault;
 use std::marker::Model;
 
-/// Why a file that is read once was refused, and what had been read of it: clauses alone see the
-/// bytes.
+/// Why a file that is read once was refused, what had been read of it, and which reads had failed:
+/// clauses alone see the bytes, and how many failed.
 #[derive(Drop)]
 pub struct PassFault {
     fault: LoadFault,
     log: Log,
+    failed: Log,
 }
 
 impl Model for PassFault {
@@ -29,23 +30,25 @@ impl PassFault {
     pub fn unread(fault: LoadFault) -> PassFault
         ensures fault { result.fault ≡ fault }
         ensures read { result.read ≡ [] }
+        ensures failures { result.failures ≡ 0 }
     {
         PassFault {
             fault,
             log: Log::new(),
+            failed: Log::new(),
         }
     }
 
-    /// For this reason, when these bytes had been read; the file is given up. Takes no memory.
+    /// For this reason, when these bytes had been read and these reads had failed; the file is
+    /// given up. Takes no memory.
     pub fn of(fault: LoadFault, held: Held) -> PassFault
         requires { ¬ IsInMemory held.standing }
         ensures fault { result.fault ≡ fault }
         ensures read { result.read ≡ held.bytes }
+        ensures failures { result.failures ≡ held.failures }
     {
-        PassFault {
-            fault,
-            log: held.into_log(),
-        }
+        let (log, failed) = held.into_logs();
+        PassFault { fault, log, failed }
     }
 
     /// Why. Takes no memory.

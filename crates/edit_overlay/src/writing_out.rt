@@ -2,18 +2,16 @@
 // and joins nothing. What was loaded is written by pieces, each as long as can be lent at once.
 ghost use Rattle.std.specs.Prelude.{◌≡◌, ◌+◌, ◌-◌, ◌*◌, ◌≤◌, ◌<◌, ◌^◌, ◌++◌, [], length, take, drop, slice_range, slice_index_or, None, IfErr, IsOk, IsSome, IsTrue, OnOk};
 ghost use Rattle.std.specs.List.{concat};
-ghost use Rattle.base_file.specs.HeldBytes.{AreThere, IsInMemory, IsSure, lent_of};
+ghost use Rattle.base_file.specs.HeldBytes.{IsSure};
 ghost use Rattle.frame_cut.specs.Heads.{blocks_of};
 ghost use Rattle.frame_cut.specs.Volume.{bytes_of};
 ghost use Rattle.trace_view.specs.Shown.{bytes_of as bytes_of_view};
-ghost use Rattle.edit_overlay.specs.Held.{volume_with, HasEnds, IsReread};
-ghost use Rattle.edit_overlay.specs.Saving.{progress, CountsSaveFailure, GoesOn, Saves};
-ghost use Rattle.edit_overlay.specs.Standings.{is_on_disk};
+ghost use Rattle.edit_overlay.specs.Held.{volume_with, CanLend, HasEnds, IsReread};
+ghost use Rattle.edit_overlay.specs.Saving.{progress, CountsSaveFailure, GoesOn, IsUnread, Saves};
 ghost use Rattle.trace_store.specs.Stores.{traces_of};
 
 use crate::save_fault::SaveFault;
 use crate::waiting::Waiting;
-use base_file::ReadFault;
 use device_io::Sink;
 use frame_cut::{BINARY_HEADER_BYTES, FILE_HEADER_BYTES};
 use std::io::Write;
@@ -31,13 +29,13 @@ pub fn write_volume<W: Write, T: Copy>(
     store: &mut TraceStore<T>,
 ) -> Result<(), SaveFault>
     requires ends { HasEnds store.old tail }
+    requires lends { CanLend store.old.loaded }
     requires small { length (bytes_of (volume_with text.now bin.now tail store.old)) < 2 ^ 64 }
     ensures same { IsReread store.old store.new }
     ensures saved { IsSure store.new.loaded.standing → Saves (W.contents writer.old.inner)
         (W.contents writer.new.inner) (bytes_of (volume_with text.now bin.now tail store.old))
         result }
-    ensures read { IfErr result (λ fault. IsSome fault.read →
-        IsTrue (is_on_disk store.old.loaded.standing)) }
+    ensures read { IfErr result (λ fault. IsUnread store.old.loaded store.new.loaded fault.read) }
     ensures failures { CountsSaveFailure result writer.old.failures writer.new.failures }
 {
     let mut written = 0;
@@ -61,6 +59,7 @@ fn write_traces<W: Write, T: Copy>(
     store: &mut TraceStore<T>,
     waiting: &mut Waiting,
 ) -> Result<(), SaveFault>
+    requires lends { CanLend store.old.loaded }
     requires bounded { length store.old.loaded.bytes < 2 ^ 64 }
     requires inside { waiting.old.to ≤ length store.old.loaded.bytes }
     requires small { waiting.old.written + (waiting.old.to - waiting.old.from) + length
@@ -73,8 +72,7 @@ fn write_traces<W: Write, T: Copy>(
     ensures saved { IsSure store.new.loaded.standing → GoesOn (W.contents writer.old.inner)
         (W.contents writer.new.inner) (progress store.old.loaded.bytes waiting.old)
         (progress store.old.loaded.bytes waiting.new) (concat (traces_of store.old)) result }
-    ensures read { IfErr result (λ fault. IsSome fault.read →
-        IsTrue (is_on_disk store.old.loaded.standing)) }
+    ensures read { IfErr result (λ fault. IsUnread store.old.loaded store.new.loaded fault.read) }
     ensures failures { CountsSaveFailure result writer.old.failures writer.new.failures }
 {
     for at in 0..store.count() {
@@ -92,6 +90,7 @@ fn write_trace<W: Write, T: Copy>(
 ) -> Result<(), SaveFault>
     requires first { 1 ≤ p }
     requires last { p ≤ length (traces_of store.old) }
+    requires lends { CanLend store.old.loaded }
     requires bounded { length store.old.loaded.bytes < 2 ^ 64 }
     requires inside { waiting.old.to ≤ length store.old.loaded.bytes }
     requires small { waiting.old.written + (waiting.old.to - waiting.old.from) + length
@@ -105,8 +104,7 @@ fn write_trace<W: Write, T: Copy>(
         (W.contents writer.new.inner) (progress store.old.loaded.bytes waiting.old)
         (progress store.old.loaded.bytes waiting.new)
         (slice_index_or (traces_of store.old) (p - 1) []) result }
-    ensures read { IfErr result (λ fault. IsSome fault.read →
-        IsTrue (is_on_disk store.old.loaded.standing)) }
+    ensures read { IfErr result (λ fault. IsUnread store.old.loaded store.new.loaded fault.read) }
     ensures failures { CountsSaveFailure result writer.old.failures writer.new.failures }
 {
     if let Some(extent) = store.whole_range(p) {
@@ -132,6 +130,7 @@ fn write_range<W: Write, T: Copy>(
     from: usize,
     to: usize,
 ) -> Result<(), SaveFault>
+    requires lends { CanLend store.old.loaded }
     requires inside { waiting.old.to ≤ length store.old.loaded.bytes }
     requires range { from ≤ to }
     requires range_inside { to ≤ length store.old.loaded.bytes }
@@ -144,8 +143,7 @@ fn write_range<W: Write, T: Copy>(
         (W.contents writer.new.inner) (progress store.old.loaded.bytes waiting.old)
         (progress store.old.loaded.bytes waiting.new)
         (slice_range store.old.loaded.bytes from to) result }
-    ensures read { IfErr result (λ fault. IsSome fault.read →
-        IsTrue (is_on_disk store.old.loaded.standing)) }
+    ensures read { IfErr result (λ fault. IsUnread store.old.loaded store.new.loaded fault.read) }
     ensures failures { CountsSaveFailure result writer.old.failures writer.new.failures }
 {
     if from == waiting.to {
@@ -164,6 +162,7 @@ fn flush<W: Write, T: Copy>(
     store: &mut TraceStore<T>,
     waiting: &mut Waiting,
 ) -> Result<(), SaveFault>
+    requires lends { CanLend store.old.loaded }
     requires inside { waiting.old.to ≤ length store.old.loaded.bytes }
     requires small { waiting.old.written + (waiting.old.to - waiting.old.from) < 2 ^ 64 }
     ensures same { IsReread store.old store.new }
@@ -174,8 +173,7 @@ fn flush<W: Write, T: Copy>(
     ensures saved { IsSure store.new.loaded.standing → GoesOn (W.contents writer.old.inner)
         (W.contents writer.new.inner) (progress store.old.loaded.bytes waiting.old)
         (progress store.old.loaded.bytes waiting.new) [] result }
-    ensures read { IfErr result (λ fault. IsSome fault.read →
-        IsTrue (is_on_disk store.old.loaded.standing)) }
+    ensures read { IfErr result (λ fault. IsUnread store.old.loaded store.new.loaded fault.read) }
     ensures failures { CountsSaveFailure result writer.old.failures writer.new.failures }
 {
     'pieces: while waiting.from < waiting.to {
@@ -190,6 +188,7 @@ fn write_piece<W: Write, T: Copy>(
     store: &mut TraceStore<T>,
     waiting: &mut Waiting,
 ) -> Result<(), SaveFault>
+    requires lends { CanLend store.old.loaded }
     requires some { waiting.old.from < waiting.old.to }
     requires inside { waiting.old.to ≤ length store.old.loaded.bytes }
     requires small { waiting.old.written + (waiting.old.to - waiting.old.from) < 2 ^ 64 }
@@ -201,12 +200,11 @@ fn write_piece<W: Write, T: Copy>(
     ensures saved { IsSure store.new.loaded.standing → GoesOn (W.contents writer.old.inner)
         (W.contents writer.new.inner) (progress store.old.loaded.bytes waiting.old)
         (progress store.old.loaded.bytes waiting.new) [] result }
-    ensures read { IfErr result (λ fault. IsSome fault.read →
-        IsTrue (is_on_disk store.old.loaded.standing)) }
+    ensures read { IfErr result (λ fault. IsUnread store.old.loaded store.new.loaded fault.read) }
     ensures failures { CountsSaveFailure result writer.old.failures writer.new.failures }
 {
     let size = store.loaded.most().min(waiting.to - waiting.from);
-    match fetch_piece(store, waiting.from as u64, size) {
+    match store.fetch_loaded(waiting.from as u64, size) {
         Ok(()) => {
             let piece = store.loaded.lent(waiting.from as u64, size);
             write_part(writer, &mut waiting.written, piece)?;
@@ -218,24 +216,6 @@ fn write_piece<W: Write, T: Copy>(
             read: Some(fault),
         }),
     }
-}
-
-// Reads so many loaded bytes from a place on. Refused also where they are none, so that a save ends
-// where nothing can be lent.
-fn fetch_piece<T: Copy>(store: &mut TraceStore<T>, at: u64, size: usize) -> Result<(), ReadFault>
-    requires { at + size ≤ length store.old.loaded.bytes }
-    ensures same { IsReread store.old store.new }
-    ensures some { OnOk result (0 < size) }
-    ensures there { OnOk result (AreThere store.new.loaded at size) }
-    ensures size { OnOk result (length (lent_of store.new.loaded at size) ≡ size) }
-    ensures bytes { OnOk result (IsSure store.new.loaded.standing →
-        lent_of store.new.loaded at size ≡ take size (drop at store.old.loaded.bytes)) }
-    ensures memory { IsInMemory store.old.loaded.standing → 0 < size → IsOk result }
-{
-    if size == 0 {
-        return Err(ReadFault::TooLarge);
-    }
-    store.fetch_loaded(at, size)
 }
 
 // Writes the pieces of a trace.

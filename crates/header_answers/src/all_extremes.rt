@@ -5,11 +5,12 @@ ghost use Rattle.frame_cut.specs.Traces.{count_of, is_trace, trace_at};
 ghost use Rattle.trace_view.specs.Shown.{bytes_of, head_of};
 ghost use Rattle.trace_view.specs.Values.{main_header};
 ghost use Rattle.edit_overlay.specs.CountedVolume.{IsSeen};
+ghost use Rattle.edit_overlay.specs.Reads.{HaveAgreed, IsFaultOfLook};
 ghost use Rattle.bench_rules.specs.declared.ask_fault.AskFault.TheVariants.{OutOfMemory as no_memory};
 ghost use Rattle.bench_rules.specs.ChosenQueries.{extremes_of_each};
 ghost use Rattle.bench_rules.specs.Conditions.{AreRising};
 ghost use Rattle.bench_rules.specs.Headers.{extremes_in, with_name};
-ghost use Rattle.bench_rules.specs.ReadFaults.{IsReadFault};
+ghost use Rattle.bench_rules.specs.ReadFaults.{IsFaultOfReads, IsReadFault};
 ghost use Rattle.header_answers.specs.Seen.{seen_of, seen_each, shown_of};
 
 use crate::main_numbers::number_at;
@@ -34,10 +35,11 @@ pub fn extremes(
     requires first { 1 ≤ a }
     requires range { a ≤ b }
     requires last { b ≤ count_of overlay.old.volume }
-    ensures ok { IfOk result (λ found. IsTrue overlay.new.agreed →
+    ensures ok { IfOk result (λ found. HaveAgreed overlay.new.reads →
         found ≡ extremes_in overlay.old.volume names.items a b) }
     ensures err { IfErr result (λ fault. IsReadFault overlay.old.loaded.on_disk fault
         ⊎ (fault ≡ no_memory)) }
+    ensures reads_tell { IfErr result (IsFaultOfReads overlay.old.reads overlay.new.reads) }
     ensures seen { IsSeen overlay.old overlay.new (b + 1 - a) }
     ensures memory { Rises (IsErrOf result AskFault.OutOfMemory) room.old room.new }
 {
@@ -59,10 +61,11 @@ pub fn extremes_among(
     names: Vec<(Text, Place)>,
 ) -> Result<Items<(Text, Extremes)>, AskFault>
     requires { AreRising 1 (count_of overlay.old.volume) traces.now }
-    ensures ok { IfOk result (λ found. IsTrue overlay.new.agreed →
+    ensures ok { IfOk result (λ found. HaveAgreed overlay.new.reads →
         found ≡ extremes_of_each overlay.old.volume names.items traces.now) }
     ensures err { IfErr result (λ fault. (fault ≡ no_memory) ⊎
         (IsReadFault overlay.old.loaded.on_disk fault × (0 < length traces.now))) }
+    ensures reads_tell { IfErr result (IsFaultOfReads overlay.old.reads overlay.new.reads) }
     ensures seen { IsSeen overlay.old overlay.new (length traces.now) }
     ensures memory { Rises (IsErrOf result AskFault.OutOfMemory) room.old room.new }
 {
@@ -98,12 +101,13 @@ fn see_trace(
 ) -> Result<(), ReadFault>
     requires trace { IsTrue (is_trace overlay.old.volume p) }
     requires each { length seen.old.items ≡ length names.now }
-    ensures numbers { OnOk result (IsTrue overlay.new.agreed → seen.new.items
+    ensures numbers { OnOk result (HaveAgreed overlay.new.reads → seen.new.items
         ≡ seen_each overlay.old.volume.head (trace_at overlay.old.volume p) names.now
         seen.old.items) }
     ensures each { OnOk result (length seen.new.items ≡ length names.now) }
     ensures seen { IsSeen overlay.old overlay.new 1 }
     ensures read { IfErr result (λ _. IsTrue overlay.old.loaded.on_disk) }
+    ensures reads_tell { IfErr result (IsFaultOfLook overlay.old.reads overlay.new.reads) }
 {
     let Some(trace) = overlay.look(p)? else {
         unreachable!()

@@ -1,7 +1,9 @@
 // The answers to queries for named header fields.
-ghost use Rattle.std.specs.Prelude.{◌≡◌, IsTrue, IsErrOf};
+ghost use Rattle.std.specs.Prelude.{◌≡◌, IsErrOf, IfErr};
+ghost use Rattle.bench_rules.specs.ReadFaults.{IsFaultOfReads};
 ghost use Rattle.room.specs.Refusals.{Rises};
 ghost use Rattle.edit_overlay.specs.CountedVolume.{IsSeen};
+ghost use Rattle.edit_overlay.specs.Reads.{HaveAgreed};
 ghost use Rattle.bench_rules.specs.declared.query.Query.TheVariants as queries;
 ghost use Rattle.bench_rules.specs.Answer.{IsReply};
 ghost use Rattle.bench_rules.specs.Looks.{looks_at, range_looks, trace_looks};
@@ -27,8 +29,9 @@ pub fn header_answer(
     p: u32,
 ) -> Result<Answer, AskFault>
     ensures reply { (s : State) → s.volume ≡ overlay.old.volume → s.fields ≡ map.now.pairs →
-        s.on_disk ≡ overlay.old.loaded.on_disk → IsTrue overlay.new.agreed →
+        s.on_disk ≡ overlay.old.loaded.on_disk → HaveAgreed overlay.new.reads →
         IsReply s (queries.Header p) result }
+    ensures reads_tell { IfErr result (IsFaultOfReads overlay.old.reads overlay.new.reads) }
     ensures seen { IsSeen overlay.old overlay.new (trace_looks overlay.old.volume p 1) }
     ensures memory { Rises (IsErrOf result AskFault.OutOfMemory) room.old room.new }
 {
@@ -54,8 +57,9 @@ pub fn found_answer(
     high: i128,
 ) -> Result<Answer, AskFault>
     ensures reply { (s : State) → s.volume ≡ overlay.old.volume → s.fields ≡ map.now.pairs →
-        s.on_disk ≡ overlay.old.loaded.on_disk → IsTrue overlay.new.agreed →
+        s.on_disk ≡ overlay.old.loaded.on_disk → HaveAgreed overlay.new.reads →
         IsReply s (queries.Find a b field.now low high) result }
+    ensures reads_tell { IfErr result (IsFaultOfReads overlay.old.reads overlay.new.reads) }
     ensures seen { IsSeen overlay.old overlay.new
         (looks_at (place_of_field map.now.pairs field.now)
         (range_looks overlay.old.volume a b)) }
@@ -82,8 +86,9 @@ pub fn extremes_answer(
     b: u32,
 ) -> Result<Answer, AskFault>
     ensures reply { (s : State) → s.volume ≡ overlay.old.volume → s.fields ≡ map.now.pairs →
-        s.on_disk ≡ overlay.old.loaded.on_disk → IsTrue overlay.new.agreed →
+        s.on_disk ≡ overlay.old.loaded.on_disk → HaveAgreed overlay.new.reads →
         IsReply s (queries.Extremes a b) result }
+    ensures reads_tell { IfErr result (IsFaultOfReads overlay.old.reads overlay.new.reads) }
     ensures seen { IsSeen overlay.old overlay.new
         (range_looks overlay.old.volume a b) }
     ensures memory { Rises (IsErrOf result AskFault.OutOfMemory) room.old room.new }

@@ -4,10 +4,11 @@ ghost use Rattle.room.specs.Refusals.{Rises};
 ghost use Rattle.frame_cut.specs.Traces.{count_of, is_trace, trace_at};
 ghost use Rattle.trace_view.specs.Values.{value_of};
 ghost use Rattle.edit_overlay.specs.CountedVolume.{IsSeen};
+ghost use Rattle.edit_overlay.specs.Reads.{Reads, HaveAgreed, IsFaultOfLook};
 ghost use Rattle.bench_rules.specs.declared.ask_fault.AskFault.TheVariants.{NoPlace as no_place, OutOfMemory as no_memory};
 ghost use Rattle.bench_rules.specs.ChosenQueries.{found_of_each};
 ghost use Rattle.bench_rules.specs.Conditions.{AreRising};
-ghost use Rattle.bench_rules.specs.ReadFaults.{IsReadFault};
+ghost use Rattle.bench_rules.specs.ReadFaults.{IsFaultOfReads, IsReadFault};
 ghost use Rattle.bench_rules.specs.Tables.{column_of, found_of, is_between};
 ghost use Rattle.bench_rules.specs.RangeFaults.{fault_of};
 
@@ -32,11 +33,12 @@ pub fn find(
     requires first { 1 ≤ a }
     requires range { a ≤ b }
     requires last { b ≤ count_of overlay.old.volume }
-    ensures ok { IfOk result (λ found. IsTrue overlay.new.agreed →
+    ensures ok { IfOk result (λ found. HaveAgreed overlay.new.reads →
         found_of overlay.old.volume place low high a b ≡ Some found) }
     ensures err { IfErr result (λ fault. IsReadFault overlay.old.loaded.on_disk fault ⊎
-        (IsTrue overlay.new.agreed → fault ≡ fault_of
+        (HaveAgreed overlay.new.reads → fault ≡ fault_of
         (found_of overlay.old.volume place low high a b))) }
+    ensures reads_tell { IfErr result (IsFaultOfReads overlay.old.reads overlay.new.reads) }
     ensures seen { IsSeen overlay.old overlay.new (b + 1 - a) }
     ensures memory { Rises (IsErrOf result AskFault.OutOfMemory) room.old room.new }
 {
@@ -65,12 +67,13 @@ pub fn found_among(
     traces: &[u32],
 ) -> Result<Items<(u32, i128)>, AskFault>
     requires { AreRising 1 (count_of overlay.old.volume) traces.now }
-    ensures ok { IfOk result (λ found. IsTrue overlay.new.agreed →
+    ensures ok { IfOk result (λ found. HaveAgreed overlay.new.reads →
         found_of_each overlay.old.volume place low high traces.now ≡ Some found) }
     ensures err { IfErr result (λ fault. (fault ≡ no_memory) ⊎
         (IsReadFault overlay.old.loaded.on_disk fault × (0 < length traces.now)) ⊎
-        ((fault ≡ no_place) × (IsTrue overlay.new.agreed →
+        ((fault ≡ no_place) × (HaveAgreed overlay.new.reads →
         found_of_each overlay.old.volume place low high traces.now ≡ None))) }
+    ensures reads_tell { IfErr result (IsFaultOfReads overlay.old.reads overlay.new.reads) }
     ensures seen { IsSeen overlay.old overlay.new (length traces.now) }
     ensures memory { Rises (IsErrOf result AskFault.OutOfMemory) room.old room.new }
 {
@@ -111,10 +114,11 @@ fn number_at(
     place: Place,
 ) -> Result<Option<i128>, ReadFault>
     requires { IsTrue (is_trace overlay.old.volume p) }
-    ensures number { IfOk result (λ number. IsTrue overlay.new.agreed → number ≡ value_of
+    ensures number { IfOk result (λ number. HaveAgreed overlay.new.reads → number ≡ value_of
         overlay.old.volume.head (trace_at overlay.old.volume p) place) }
     ensures seen { IsSeen overlay.old overlay.new 1 }
     ensures read { IfErr result (λ _. IsTrue overlay.old.loaded.on_disk) }
+    ensures reads_tell { IfErr result (IsFaultOfLook overlay.old.reads overlay.new.reads) }
 {
     let Some(trace) = overlay.look(p)? else {
         unreachable!()
@@ -132,10 +136,12 @@ fn without_memory(
 ) -> Result<AskFault, ReadFault>
     requires range { p ≤ b }
     requires last { b ≤ count_of overlay.old.volume }
-    ensures fault { IfOk result (λ fault. IsTrue overlay.new.agreed →
+    ensures fault { IfOk result (λ fault. HaveAgreed overlay.new.reads →
         fault ≡ fault_of (column_of overlay.old.volume place (p + 1) b)) }
+    ensures rule { (old new : Reads) → IfOk result (IsFaultOfReads old new) }
     ensures seen { IsSeen overlay.old overlay.new (b - p) }
     ensures read { IfErr result (λ _. IsTrue overlay.old.loaded.on_disk) }
+    ensures reads_tell { IfErr result (IsFaultOfLook overlay.old.reads overlay.new.reads) }
 {
     for k in 0..b - p {
         let number = number_at(overlay, p + 1 + k, place)?;

@@ -4,9 +4,10 @@ ghost use Rattle.room.specs.Refusals.{Rises};
 ghost use Rattle.frame_cut.specs.Traces.{is_trace, trace_at};
 ghost use Rattle.trace_view.specs.Shown.{bytes_of, head_of};
 ghost use Rattle.edit_overlay.specs.CountedVolume.{IsSeen};
+ghost use Rattle.edit_overlay.specs.Reads.{HaveAgreed};
 ghost use Rattle.bench_rules.specs.declared.ask_fault.AskFault.TheVariants.{OutOfMemory as no_memory};
 ghost use Rattle.bench_rules.specs.Headers.{header_of, with_name};
-ghost use Rattle.bench_rules.specs.ReadFaults.{IsReadFault};
+ghost use Rattle.bench_rules.specs.ReadFaults.{IsFaultOfReads, IsReadFault};
 
 use bench_rules::{AskFault, Items, Text};
 use edit_overlay::Overlay;
@@ -24,10 +25,11 @@ pub fn header(
     names: Vec<(Text, Place)>,
 ) -> Result<Items<(Text, i128)>, AskFault>
     requires { IsTrue (is_trace overlay.old.volume p) }
-    ensures ok { IfOk result (λ numbers. IsTrue overlay.new.agreed → numbers ≡ header_of
+    ensures ok { IfOk result (λ numbers. HaveAgreed overlay.new.reads → numbers ≡ header_of
         overlay.old.volume.head names.items (trace_at overlay.old.volume p)) }
     ensures err { IfErr result (λ fault. IsReadFault overlay.old.loaded.on_disk fault
         ⊎ (fault ≡ no_memory)) }
+    ensures reads_tell { IfErr result (IsFaultOfReads overlay.old.reads overlay.new.reads) }
     ensures seen { IsSeen overlay.old overlay.new 1 }
     ensures memory { Rises (IsErrOf result AskFault.OutOfMemory) room.old room.new }
 {

@@ -111,7 +111,8 @@ impl Ratio {
     }
 }
 
-// Nearly all coordinates stand under a power of 10: then numbers are divided by constants alone.
+// Nearly all coordinates stand under 1, 10, 100 or 1000: then numbers are divided by constants
+// alone.
 #[inline]
 fn greatest_common_divisor(a: u64, b: u32) -> u32
     requires { 0 < b }
@@ -150,7 +151,8 @@ fn divisor_with_1000(rest: u32) -> u32
     first_divisor(rest, 8, 4, 2) * first_divisor(rest, 125, 25, 5)
 }
 
-// The first of three numbers above 0 that divides the other, or 1.
+// The first of three numbers above 0 that divides `number`, or 1. Where fewer are asked for, the
+// last one stands twice.
 #[inline(always)]
 fn first_divisor(number: u32, first: u32, second: u32, third: u32) -> u32
     requires first { 0 < first }

@@ -1,6 +1,6 @@
 -- What a bench holds once its volume, its records and its reports are edited together.
 use Rattle.std.proofs.Common.{◌≡◌, ◌∙◌, ℕ, ◌+◌, ◌*◌, ◌-◌, ◌/◌, ◌%◌, ◌<◌, ◌≤◌, ◌^◌, ◌++◌, List, [], length, map, take, drop, get_or, refl, sym, ap, subst, arith}
-use Rattle.std.specs.Prelude.{slice_set, IsTrue, IfSome, Option}
+use Rattle.std.specs.Prelude.{slice_set, IfSome, Option}
 use Rattle.std.proofs.Math.Nat.{mod-eq-sub-div-mul, div-mul-le_self}
 use Rattle.std.proofs.lemmas.List.{length-map, map-append, drop-map, take-map, drop-drop, take-append-drop, append_assoc}
 use Rattle.frame_cut.specs.declared.file_head.Head.{Head}
@@ -17,6 +17,7 @@ use Rattle.trace_record.specs.declared.packed_record.PackedRecord.{PackedRecord}
 use Rattle.trace_record.specs.declared.record.Record.{Record}
 use Rattle.edit_overlay.specs.CountedVolume.{CountedVolume, with_prepared, IsSeen}
 use Rattle.edit_overlay.specs.Loaded.{Loaded}
+use Rattle.edit_overlay.specs.Reads.{Follow, HaveAgreed}
 use Rattle.live_reports.specs.declared.live_reports.LiveReports.{LiveReports}
 use Rattle.live_reports.specs.Exchanged.{with_records}
 use Rattle.live_reports.specs.OfRecords.{AreReportsOf}
@@ -34,7 +35,7 @@ use Rattle.live_volume.proofs.MeasuredLemmas.{as_many, few_measured, frame_again
 
 -- an edit is done
 pub held_edited : (b : Inside) (e : CountedVolume PackedRecord) (reports : LiveReports) (w : Volume) (qs : List Record) → IsHeld b → e.volume ≡ w → e.prepared ≡ e.volume → map record_in e.payloads ≡ qs → w.head ≡ b.overlay.volume.head
-    → HasFrame b.limits w → AreMeasured qs w.traces → (IsTrue e.agreed → IsCut (bytes_of w) b.reading b.limits w) → (IsTrue e.agreed → map facts_of qs ≡ records_of w b.fields.pairs) → AreReportsOf reports qs
+    → HasFrame b.limits w → AreMeasured qs w.traces → (HaveAgreed e.reads → IsCut (bytes_of w) b.reading b.limits w) → (HaveAgreed e.reads → map facts_of qs ≡ records_of w b.fields.pairs) → AreReportsOf reports qs
     → IsHeld (record b { overlay = e; reports = reports })
 held_edited b e reports w qs h is prepared records head frame measured cut facts counted = record {
   cut = λ sure. subst (λ (u : Volume). IsCut (bytes_of u) b.reading b.limits u) (sym is) (cut sure);
@@ -47,10 +48,10 @@ held_edited b e reports w qs h is prepared records head frame measured cut facts
 }
 
 -- an edit is refused
-pub held_unedited : (b : Inside) (e : CountedVolume PackedRecord) (reports : LiveReports) → IsHeld b → e.volume ≡ b.overlay.volume → e.prepared ≡ e.volume → e.payloads ≡ b.overlay.payloads → (IsTrue e.agreed → IsTrue b.overlay.agreed)
+pub held_unedited : (b : Inside) (e : CountedVolume PackedRecord) (reports : LiveReports) → IsHeld b → e.volume ≡ b.overlay.volume → e.prepared ≡ e.volume → e.payloads ≡ b.overlay.payloads → Follow b.overlay.reads e.reads
     → AreReportsOf reports (records_in b) → IsHeld (record b { overlay = e; reports = reports })
 held_unedited b e reports h is prepared payloads fell counted =
-    held_edited b e reports b.overlay.volume (records_in b) h is prepared (ap (λ (ps : List PackedRecord). map record_in ps) payloads) refl h.frame h.measured (λ sure. h.cut (fell sure)) (λ sure. h.records (fell sure)) counted
+    held_edited b e reports b.overlay.volume (records_in b) h is prepared (ap (λ (ps : List PackedRecord). map record_in ps) payloads) refl h.frame h.measured (λ sure. h.cut (fell.agreed sure)) (λ sure. h.records (fell.agreed sure)) counted
 
 -- the state behind an overlay
 pub state_with : (b : Inside) (e : CountedVolume PackedRecord) (w : Volume) → e.volume ≡ w → e.loaded ≡ b.overlay.loaded → state_of (record b { overlay = e }) ≡ with_volume (state_of b) w
@@ -124,19 +125,19 @@ module _ (b : Inside) (h : IsHeld b) (p at : ℕ) (bytes : List ℕ) (mid o : Co
       subst (λ (ps : List PackedRecord). AreFew (slice_set (map record_in ps) (p - 1) r)) (sym put_payloads) (few_measured b.limits behind (slice_set (records_in b) (p - 1) r) put_frame counted (put_measured r small))
 
   -- the edit is done
-  pub put_done : (e : CountedVolume PackedRecord) (reports : LiveReports) (r : Record) → e.volume ≡ o.prepared → e.prepared ≡ e.volume → map record_in e.payloads ≡ slice_set (map record_in o.payloads) (p - 1) r → e.agreed ≡ o.agreed
-      → (IsTrue o.agreed → IsTrue b.overlay.agreed) → (IsTrue b.overlay.agreed → IsCut (bytes_of behind) b.reading b.limits behind) → (IsTrue o.agreed → facts_of r ≡ record_of o.prepared.head b.fields.pairs (trace_at o.prepared p))
+  pub put_done : (e : CountedVolume PackedRecord) (reports : LiveReports) (r : Record) → e.volume ≡ o.prepared → e.prepared ≡ e.volume → map record_in e.payloads ≡ slice_set (map record_in o.payloads) (p - 1) r → e.reads ≡ o.reads
+      → Follow b.overlay.reads o.reads → (HaveAgreed b.overlay.reads → IsCut (bytes_of behind) b.reading b.limits behind) → (HaveAgreed o.reads → facts_of r ≡ record_of o.prepared.head b.fields.pairs (trace_at o.prepared p))
       → r.number ≤ length (trace_at o.prepared p) → AreReportsOf reports (map record_in e.payloads) → IsHeld (record b { overlay = e; reports = reports })
   put_done e reports r is prepared records same fell cut facts few counted =
       let rs : List Record = records_in b in
       let put : map record_in e.payloads ≡ slice_set rs (p - 1) r = records ∙ ap (λ (ps : List PackedRecord). slice_set (map record_in ps) (p - 1) r) put_payloads in
       let small : r.number ≤ length (trace_at behind p) = subst (λ (u : Volume). r.number ≤ length (trace_at u p)) put_prepared few in
-      held_edited b e reports behind (slice_set rs (p - 1) r) h (is ∙ put_prepared) prepared put refl put_frame (put_measured r small) (λ sure. cut (fell (subst IsTrue same sure)))
+      held_edited b e reports behind (slice_set rs (p - 1) r) h (is ∙ put_prepared) prepared put refl put_frame (put_measured r small) (λ sure. cut (fell.agreed (subst HaveAgreed same sure)))
       (λ sure.
-      let before : IsTrue o.agreed = subst IsTrue same sure in
+      let before : HaveAgreed o.reads = subst HaveAgreed same sure in
       let own : facts_of r ≡ record_of b.overlay.volume.head b.fields.pairs laid =
       facts before ∙ ap (λ (u : Volume). record_of u.head b.fields.pairs (trace_at u p)) put_prepared ∙ ap (record_of b.overlay.volume.head b.fields.pairs) (trace_again b.overlay.volume p laid first last) in
-      records-with_trace b.overlay.volume b.fields.pairs rs p laid r (h.records (fell before)) own)
+      records-with_trace b.overlay.volume b.fields.pairs rs p laid r (h.records (fell.agreed before)) own)
       (subst (λ (l : List Record). AreReportsOf reports l) put counted)
 
 -- ---- bytes laid over many traces, whose new records were read
@@ -222,10 +223,10 @@ module _ (b : Inside) (h : IsHeld b) (a count at size : ℕ) (bytes : List ℕ) 
       subst (λ (ps : List PackedRecord). AreFew (with_records (map record_in ps) (a - 1) new)) (sym each_payloads) (few_measured b.limits after (with_records (records_in b) (a - 1) new) each_frame counted each_measured)
 
   -- the edit is done
-  pub each_done : (e : CountedVolume PackedRecord) (reports : LiveReports) → e.volume ≡ o.prepared → e.prepared ≡ e.volume → map record_in e.payloads ≡ with_records (map record_in o.payloads) (a - 1) new → e.agreed ≡ o.agreed
-      → (IsTrue o.agreed → IsCut (bytes_of after) b.reading b.limits after) → (IsTrue o.agreed → map facts_of (with_records (records_in b) (a - 1) new) ≡ records_of after b.fields.pairs) → AreReportsOf reports (map record_in e.payloads)
+  pub each_done : (e : CountedVolume PackedRecord) (reports : LiveReports) → e.volume ≡ o.prepared → e.prepared ≡ e.volume → map record_in e.payloads ≡ with_records (map record_in o.payloads) (a - 1) new → e.reads ≡ o.reads
+      → (HaveAgreed o.reads → IsCut (bytes_of after) b.reading b.limits after) → (HaveAgreed o.reads → map facts_of (with_records (records_in b) (a - 1) new) ≡ records_of after b.fields.pairs) → AreReportsOf reports (map record_in e.payloads)
       → IsHeld (record b { overlay = e; reports = reports })
   each_done e reports is prepared records same cut facts counted =
       let put : map record_in e.payloads ≡ with_records (records_in b) (a - 1) new = records ∙ ap (λ (ps : List PackedRecord). with_records (map record_in ps) (a - 1) new) each_payloads in
-      held_edited b e reports after (with_records (records_in b) (a - 1) new) h (is ∙ each_prepared) prepared put refl each_frame each_measured (λ sure. cut (subst IsTrue same sure)) (λ sure. facts (subst IsTrue same sure))
+      held_edited b e reports after (with_records (records_in b) (a - 1) new) h (is ∙ each_prepared) prepared put refl each_frame each_measured (λ sure. cut (subst HaveAgreed same sure)) (λ sure. facts (subst HaveAgreed same sure))
       (subst (λ (l : List Record). AreReportsOf reports l) put counted)

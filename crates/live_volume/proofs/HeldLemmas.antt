@@ -20,6 +20,7 @@ use Rattle.trace_record.specs.declared.packed_record.PackedRecord.{PackedRecord}
 use Rattle.trace_record.specs.declared.record.Record.{Record}
 use Rattle.edit_overlay.specs.CountedVolume.{CountedVolume, after_look, IsSeen}
 use Rattle.edit_overlay.specs.Loaded.{Loaded}
+use Rattle.edit_overlay.specs.Reads.{Follow}
 use Rattle.live_reports.specs.OfRecords.{AreReportsOf}
 use Rattle.bench_rules.specs.declared.row.Row.{Row}
 use Rattle.bench_rules.specs.KeptSlices.{KeptSlices, after_slice}
@@ -94,7 +95,7 @@ same_state s v fields on_disk e f g =
 -- ---- looks
 
 -- an overlay after one look
-pub seen_once : (o last : CountedVolume PackedRecord) → last ≡ after_look o last.agreed → (IsTrue last.agreed → IsTrue o.agreed) → IsSeen o last 1
+pub seen_once : (o last : CountedVolume PackedRecord) → last ≡ after_look o last.reads → Follow o.reads last.reads → IsSeen o last 1
 seen_once o last look fell = seen_more o o last 0 (seen_none o) look fell
 
 -- as it was is after at most one look
@@ -108,7 +109,7 @@ looked_at b o n seen = record {
       ∙ ap (λ (l : Loaded). let s : State = record (state_of b) { on_disk = l.on_disk } in s) seen.loaded;
   looks = seen.looks;
   loaded = ap (λ (l : Loaded). l.bytes) seen.loaded;
-  agreed = seen.agreed;
+  reads = seen.reads;
 }
 
 -- as it is shown
@@ -118,11 +119,11 @@ looked_as b o n shown view seen = subst (λ (s : Session). OnlyLooks s (session_
 -- the bench holds what it held
 pub held_again : (b : Inside) (o : CountedVolume PackedRecord) (n : ℕ) → IsSeen b.overlay o n → IsHeld b → IsHeld (record b { overlay = o })
 held_again b o n seen h = record {
-  cut = λ sure. subst (λ (v : Volume). IsCut (bytes_of v) b.reading b.limits v) (sym seen.volume) (h.cut (seen.agreed sure));
+  cut = λ sure. subst (λ (v : Volume). IsCut (bytes_of v) b.reading b.limits v) (sym seen.volume) (h.cut (seen.reads.agreed sure));
   frame = subst (HasFrame b.limits) (sym seen.volume) h.frame;
   prepared = seen.prepared ∙ h.prepared ∙ sym seen.volume;
   extensions = h.extensions ∙ ap (λ (v : Volume). v.head.extensions) (sym seen.volume);
-  records = λ sure. ap (λ (ps : List PackedRecord). map facts_of (map record_in ps)) seen.payloads ∙ h.records (seen.agreed sure) ∙ ap (λ (v : Volume). records_of v b.fields.pairs) (sym seen.volume);
+  records = λ sure. ap (λ (ps : List PackedRecord). map facts_of (map record_in ps)) seen.payloads ∙ h.records (seen.reads.agreed sure) ∙ ap (λ (v : Volume). records_of v b.fields.pairs) (sym seen.volume);
   measured = subst (λ (ps : List PackedRecord). AreMeasured (map record_in ps) o.volume.traces) (sym seen.payloads)
       (subst (λ (v : Volume). AreMeasured (records_in b) v.traces) (sym seen.volume) h.measured);
   reports = subst (λ (ps : List PackedRecord). AreReportsOf b.reports (map record_in ps)) (sym seen.payloads) h.reports;
@@ -130,14 +131,14 @@ held_again b o n seen h = record {
 
 -- looks behind looks
 pub looks_none : (s : Session) → OnlyLooks s s 0
-looks_none s = record { state = refl; looks = (omega arith, omega arith); loaded = refl; agreed = λ sure. sure }
+looks_none s = record { state = refl; looks = (omega arith, omega arith); loaded = refl; reads = record { agreed = λ sure. sure; failures = omega arith } }
 
 pub looks_more : (a b c : Session) (m n : ℕ) → OnlyLooks a b m → OnlyLooks b c n → OnlyLooks a c (m + n)
 looks_more a b c m n f g =
-    record { state = g.state ∙ f.state; looks = (omega (arith, f.looks, g.looks), omega (arith, f.looks, g.looks)); loaded = g.loaded ∙ f.loaded; agreed = λ sure. f.agreed (g.agreed sure) }
+    record { state = g.state ∙ f.state; looks = (omega (arith, f.looks, g.looks), omega (arith, f.looks, g.looks)); loaded = g.loaded ∙ f.loaded; reads = record { agreed = λ sure. f.reads.agreed (g.reads.agreed sure); failures = omega (arith, f.reads.failures, g.reads.failures) } }
 
 pub looks_most : (a b : Session) (m n : ℕ) → OnlyLooks a b m → m ≤ n → OnlyLooks a b n
-looks_most a b m n f less = record { state = f.state; looks = (omega (arith, f.looks), omega (arith, f.looks, less)); loaded = f.loaded; agreed = f.agreed }
+looks_most a b m n f less = record { state = f.state; looks = (omega (arith, f.looks), omega (arith, f.looks, less)); loaded = f.loaded; reads = f.reads }
 
 -- looks that are not spared
 pub looks_unless : (spared : Bool) (a b : Session) (n : ℕ) → spared ≡ false → OnlyLooks a b n → OnlyLooks a b (if spared then 0 else n)

@@ -1,6 +1,6 @@
 -- A field of many traces counted up: what is known after the first values, and whether a trace has another inline or crossline then.
 use Rattle.std.proofs.Common.{◌≡◌, ℕ, ℤ, zero, suc, ◌+◌, ◌-◌, ◌/◌, ◌<◌, ◌≤◌, Bool, true, false, ◌&&◌, ◌||◌, leb, List, [], ◌∷◌, length, take, drop, map, get_or, Option, Some, None, refl, sym, ap, ap₂, subst, ◌∙◌, arith}
-use Rattle.std.specs.Prelude.{is_some, not, IsTrue, ◌*◌, if◌then◌else◌}
+use Rattle.std.specs.Prelude.{is_some, not, ◌*◌, if◌then◌else◌}
 use Rattle.std.specs.List.{list_any, range_with_len}
 use Rattle.std.specs.Ordering.{int_eq}
 use Rattle.std.proofs.lemmas.Bool.{le-leb}
@@ -16,6 +16,7 @@ use Rattle.trace_record.specs.OfTrace.{record_of}
 use Rattle.trace_record.specs.Told.{tells_record}
 use Rattle.trace_record.specs.declared.record.Record.{Record}
 use Rattle.edit_overlay.specs.CountedVolume.{RisesAtMost}
+use Rattle.edit_overlay.specs.Reads.{HaveAgreed}
 use Rattle.live_reports.specs.Alike.{same_cell}
 use Rattle.live_reports.specs.Exchanged.{same_cells, with_records}
 use Rattle.volume_records.specs.OfVolume.{AreHeaderParts, headers_of, records_of}
@@ -47,7 +48,7 @@ use borrow.Author.Count.{below_more}
 -- the first k values are not refused, and their traces hold them, at a look each
 pub record IsSoFar (old mid : Session) (place : Place) (a : ℕ) (first step : ℤ) (k : ℕ) : Type 0 where
   pub seen : OnlyLooks old mid k
-  pub none : IsTrue mid.agreed → NoneRefused old.state.volume place a first step k
+  pub none : HaveAgreed mid.reads → NoneRefused old.state.volume place a first step k
   pub each : EachHolds old.state.volume a k place
   pub fit : (j : ℕ) → j < k → fits place.kind (counted first step j) ≡ true
 
@@ -60,7 +61,7 @@ nothing_told None e = refl
 nothing_told (Some x) e = absurd cc
 
 pub none_again : (old mid new : Session) (place : Place) (a : ℕ) (first step : ℤ) (k : ℕ) (r : Option Refusal) → IsSoFar old mid place a first step k
-    → is_some r ≡ false → (IsTrue new.agreed → r ≡ set_refusal mid.state.volume.head (trace_at mid.state.volume (a + k)) (Some place) (counted first step k))
+    → is_some r ≡ false → (HaveAgreed new.reads → r ≡ set_refusal mid.state.volume.head (trace_at mid.state.volume (a + k)) (Some place) (counted first step k))
     → (r ≡ None → HoldsPlace (trace_at mid.state.volume (a + k)) place) → (r ≡ None → fits place.kind (counted first step k) ≡ true) → OnlyLooks mid new 1 → IsSoFar old new place a first step (k + 1)
 none_again old mid new place a first step k r far nothing is holds fit look =
     let none : r ≡ None = nothing_told r nothing in
@@ -69,7 +70,7 @@ none_again old mid new place a first step k r far nothing is holds fit look =
       none = λ sure.
           let here : set_refusal old.state.volume.head (trace_at old.state.volume (a + k)) (Some place) (counted first step k) ≡ None =
           ap (λ (s : State). set_refusal s.volume.head (trace_at s.volume (a + k)) (Some place) (counted first step k)) (sym far.seen.state) ∙ sym (is sure) ∙ none in
-          below_more (λ (j : ℕ). set_refusal old.state.volume.head (trace_at old.state.volume (a + j)) (Some place) (counted first step j) ≡ None) k (far.none (look.agreed sure)) here;
+          below_more (λ (j : ℕ). set_refusal old.state.volume.head (trace_at old.state.volume (a + j)) (Some place) (counted first step j) ≡ None) k (far.none (look.reads.agreed sure)) here;
       each = below_more (λ (j : ℕ). HoldsPlace (trace_at old.state.volume (a + j)) place) k far.each (subst (λ (s : State). HoldsPlace (trace_at s.volume (a + k)) place) far.seen.state (holds none));
       fit = below_more (λ (j : ℕ). fits place.kind (counted first step j) ≡ true) k far.fit (fit none);
     }
@@ -84,14 +85,14 @@ among_values s a b place first step low high last =
 
 -- the value that is refused behind those that are not is the answer
 pub told_at : (old mid new : Session) (place : Place) (a b : ℕ) (first step : ℤ) (k : ℕ) (r : Option Refusal) → 1 ≤ a → b ≤ count_of old.state.volume → IsSoFar old mid place a first step k → a + k ≤ b
-    → is_some r ≡ true → OnlyLooks mid new 1 → (IsTrue new.agreed → r ≡ set_refusal mid.state.volume.head (trace_at mid.state.volume (a + k)) (Some place) (counted first step k))
-    → IsTrue new.agreed → r ≡ first_refusal_among old.state.volume (Some place) (numbers a b first step)
+    → is_some r ≡ true → OnlyLooks mid new 1 → (HaveAgreed new.reads → r ≡ set_refusal mid.state.volume.head (trace_at mid.state.volume (a + k)) (Some place) (counted first step k))
+    → HaveAgreed new.reads → r ≡ first_refusal_among old.state.volume (Some place) (numbers a b first step)
 told_at old mid new place a b first step k None low last far there some look is sure = absurd cc
 told_at old mid new place a b first step k (Some r) low last far there some look is sure =
     let s : State = old.state in
     let here : set_refusal s.volume.head (trace_at s.volume (a + k)) (Some place) (counted first step k) ≡ Some r =
     ap (λ (u : State). set_refusal u.volume.head (trace_at u.volume (a + k)) (Some place) (counted first step k)) (sym far.seen.state) ∙ sym (is sure) in
-    sym (renumber_refused s a b (field.Place place) first step place k r low last refl (far.none (look.agreed sure)) there here) ∙ among_values s a b place first step low (omega (arith, there)) last
+    sym (renumber_refused s a b (field.Place place) first step place k r low last refl (far.none (look.reads.agreed sure)) there here) ∙ among_values s a b place first step low (omega (arith, there)) last
 
 -- and where there is one it is not none
 pub told_some : {P : Type 0} (r : Option Refusal) → is_some r ≡ true → r ≡ None → P
@@ -102,7 +103,7 @@ told_some r some none = absurd (not_some (ap is_some (sym none) ∙ some))
 
 -- none is refused
 pub told_none : (old mid : Session) (place : Place) (a b : ℕ) (first step : ℤ) (k : ℕ) → 1 ≤ a → a ≤ b → b ≤ count_of old.state.volume → IsSoFar old mid place a first step k → k ≡ b + 1 - a
-    → IsTrue mid.agreed → (let none : Option Refusal = None in none) ≡ first_refusal_among old.state.volume (Some place) (numbers a b first step)
+    → HaveAgreed mid.reads → (let none : Option Refusal = None in none) ≡ first_refusal_among old.state.volume (Some place) (numbers a b first step)
 told_none old mid place a b first step k low high last far all sure =
     let s : State = old.state in
     sym (renumber_not_refused s a b (field.Place place) first step place low high last refl (λ j less. far.none sure j (omega (arith, less, all)))) ∙ among_values s a b place first step low high last

@@ -14,6 +14,7 @@ use Rattle.trace_record.specs.declared.packed_record.PackedRecord.{PackedRecord}
 use Rattle.trace_record.specs.declared.record.Record.{Record}
 use Rattle.trace_store.specs.Each.{put_over}
 use Rattle.edit_overlay.specs.CountedVolume.{CountedVolume, with_over, with_prepared, IsSeen}
+use Rattle.edit_overlay.specs.Reads.{Reads, Follow, HaveAgreed}
 use Rattle.live_reports.specs.declared.live_reports.LiveReports.{LiveReports}
 use Rattle.live_reports.specs.Exchanged.{with_records}
 use Rattle.live_reports.specs.OfRecords.{AreReportsOf}
@@ -182,16 +183,16 @@ module _ (b : Inside) (h : IsHeld b) (a count : ℕ) (places bytes : List ℕ) (
       subst (λ (ps : List PackedRecord). AreFew (with_records (map record_in ps) (a - 1) new)) (sym over_payloads) (few_measured b.limits after (with_records (records_in b) (a - 1) new) frame counted measured)
 
   -- the edit is done
-  pub over_done : (e : CountedVolume PackedRecord) (reports : LiveReports) → e.volume ≡ o.prepared → e.prepared ≡ e.volume → map record_in e.payloads ≡ with_records (map record_in o.payloads) (a - 1) new → e.agreed ≡ o.agreed
-      → (IsTrue b.overlay.agreed → IsCut (bytes_of after) b.reading b.limits after) → (IsTrue o.agreed → map facts_of new ≡ take count (drop (a - 1) (records_of mid.prepared b.fields.pairs))) → AreReportsOf reports (map record_in e.payloads)
+  pub over_done : (e : CountedVolume PackedRecord) (reports : LiveReports) → e.volume ≡ o.prepared → e.prepared ≡ e.volume → map record_in e.payloads ≡ with_records (map record_in o.payloads) (a - 1) new → e.reads ≡ o.reads
+      → (HaveAgreed b.overlay.reads → IsCut (bytes_of after) b.reading b.limits after) → (HaveAgreed o.reads → map facts_of new ≡ take count (drop (a - 1) (records_of mid.prepared b.fields.pairs))) → AreReportsOf reports (map record_in e.payloads)
       → IsHeld (record b { overlay = e; reports = reports })
   over_done e reports is prepared records same cut facts counted =
       let put : map record_in e.payloads ≡ with_records (records_in b) (a - 1) new = records ∙ ap (λ (ps : List PackedRecord). with_records (map record_in ps) (a - 1) new) over_payloads in
-      let before : IsTrue o.agreed → IsTrue b.overlay.agreed = λ sure. subst IsTrue (ap (λ (x : CountedVolume PackedRecord). x.agreed) ready) (seen.agreed sure) in
-      let made : IsTrue o.agreed → map facts_of new ≡ take (length places) (drop (a - 1) (records_of after b.fields.pairs)) =
+      let before : Follow b.overlay.reads o.reads = subst (λ (r : Reads). Follow r o.reads) (ap (λ (x : CountedVolume PackedRecord). x.reads) ready) seen.reads in
+      let made : HaveAgreed o.reads → map facts_of new ≡ take (length places) (drop (a - 1) (records_of after b.fields.pairs)) =
       λ sure. facts sure ∙ ap (λ (x : CountedVolume PackedRecord). take count (drop (a - 1) (records_of x.prepared b.fields.pairs))) ready ∙ ap (λ (n : ℕ). take n (drop (a - 1) (records_of after b.fields.pairs))) (sym number) in
-      held_edited b e reports after (with_records (records_in b) (a - 1) new) h (is ∙ over_prepared) prepared put refl frame measured (λ sure. cut (before (subst IsTrue same sure)))
+      held_edited b e reports after (with_records (records_in b) (a - 1) new) h (is ∙ over_prepared) prepared put refl frame measured (λ sure. cut (before.agreed (subst HaveAgreed same sure)))
       (λ sure.
-      let read : IsTrue o.agreed = subst IsTrue same sure in
-      records-with_over b.overlay.volume b.fields.pairs a places bytes (records_in b) new (many ∙ sym number) (h.records (before read)) (made read))
+      let read : HaveAgreed o.reads = subst HaveAgreed same sure in
+      records-with_over b.overlay.volume b.fields.pairs a places bytes (records_in b) new (many ∙ sym number) (h.records (before.agreed read)) (made read))
       (subst (λ (l : List Record). AreReportsOf reports l) put counted)

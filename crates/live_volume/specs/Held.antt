@@ -1,5 +1,5 @@
 -- How a bench holds its state.
-use Rattle.std.specs.Prelude.{◌≡◌, ℕ, ◌+◌, ◌-◌, ◌*◌, ◌≤◌, Bool, IsTrue, not, List, All, length, map}
+use Rattle.std.specs.Prelude.{◌≡◌, ℕ, ◌+◌, ◌-◌, ◌*◌, ◌≤◌, Bool, not, List, All, length, map}
 use Rattle.std.specs.List.{list_any, range_with_len}
 use Rattle.text_block.specs.declared.block.TheConstants.{TEXT_BLOCK_BYTES}
 use Rattle.field_map.specs.declared.place.TheConstants.{TRACE_HEADER_BYTES}
@@ -13,6 +13,7 @@ use Rattle.trace_view.specs.Values.{samples_at}
 use Rattle.trace_record.specs.Packed.{record_in}
 use Rattle.trace_record.specs.declared.record.Record.{Record}
 use Rattle.edit_overlay.specs.CountedVolume.{RisesAtMost}
+use Rattle.edit_overlay.specs.Reads.{Follow, HaveAgreed}
 use Rattle.bench_rules.specs.Kept.{same_cell}
 use Rattle.bench_rules.specs.Live.{AreRecordsOf}
 use Rattle.live_reports.specs.OfRecords.{AreReportsOf}
@@ -23,9 +24,9 @@ use Rattle.live_volume.specs.declared.live_volume.LiveVolume.TheInside.{Inside}
 abbrev pub state_of : Inside → State
 state_of b = record { volume = b.overlay.volume; fields = b.fields.pairs; reading = b.reading; limits = b.limits; on_disk = b.overlay.loaded.on_disk }
 
--- the state that is held, with the count of looks, the loaded bytes, and whether each read of them agreed
+-- the state that is held, with the count of looks, the loaded bytes, and what is known of the reads of them
 abbrev pub session_of : Inside → Session
-session_of b = record { state = state_of b; looks = b.overlay.looks; loaded = b.overlay.loaded.bytes; agreed = b.overlay.agreed }
+session_of b = record { state = state_of b; looks = b.overlay.looks; loaded = b.overlay.loaded.bytes; reads = b.overlay.reads }
 
 -- the records that stand beside the traces
 abbrev pub records_in : Inside → List Record
@@ -52,11 +53,11 @@ pub record AreMeasured (rs : List Record) (ts : List (List ℕ)) : Type 0 where
 -- the one cut of their bytes, and the records are those of the traces; whatever was read, the lengths and numbers on which
 -- no call may fail stand: the frame, and as many records as traces, of no more samples than those have bytes
 pub record IsHeld (b : Inside) : Type 0 where
-  pub cut : IsTrue b.overlay.agreed → IsCut (bytes_of b.overlay.volume) b.reading b.limits b.overlay.volume
+  pub cut : HaveAgreed b.overlay.reads → IsCut (bytes_of b.overlay.volume) b.reading b.limits b.overlay.volume
   pub frame : HasFrame b.limits b.overlay.volume
   pub prepared : b.overlay.prepared ≡ b.overlay.volume
   pub extensions : b.fields.extensions ≡ b.overlay.volume.head.extensions
-  pub records : IsTrue b.overlay.agreed → AreRecordsOf (state_of b) (records_in b)
+  pub records : HaveAgreed b.overlay.reads → AreRecordsOf (state_of b) (records_in b)
   pub measured : AreMeasured (records_in b) b.overlay.volume.traces
   pub reports : AreReportsOf b.reports (records_in b)
 
@@ -65,7 +66,7 @@ pub record OnlyLooks (old new : Session) (n : ℕ) : Type 0 where
   pub state : new.state ≡ old.state
   pub looks : RisesAtMost old.looks new.looks n
   pub loaded : new.loaded ≡ old.loaded
-  pub agreed : IsTrue new.agreed → IsTrue old.agreed
+  pub reads : Follow old.reads new.reads
 
 -- both were read in the same way, under the same limits, from the same place
 pub record IsReadAs (old new : State) : Type 0 where

@@ -1,10 +1,12 @@
 // A block of traces moved.
-ghost use Rattle.std.specs.Prelude.{◌≡◌, ◌+◌, ◌-◌, ◌<◌, ◌^◌, IsTrue, IfNone, OnErr, IsErrOf};
+ghost use Rattle.std.specs.Prelude.{◌≡◌, ◌+◌, ◌-◌, ◌<◌, ◌^◌, IfNone, OnErr, IsErrOf, IfErr, IfSome};
+ghost use Rattle.edit_overlay.specs.Reads.{Follow, HaveAgreed};
 ghost use Rattle.room.specs.Refusals.{Rises};
 ghost use Rattle.bench_rules.specs.BlockMoves.{block_refusal};
 ghost use Rattle.bench_rules.specs.declared.edit.Edit.TheVariants as edits;
 ghost use Rattle.bench_rules.specs.Steps.{Step};
 ghost use Rattle.live_volume.specs.Held.{IsReadAs};
+ghost use Rattle.bench_rules.specs.ReadFaults.{IsRefusalOfNoRead, IsRefusalOfReads};
 
 use crate::live_volume::LiveVolume;
 use bench_rules::Refusal;
@@ -22,11 +24,12 @@ impl LiveVolume {
         b: u32,
         to: u32,
     ) -> Result<(), Refusal>
-        ensures step { IsTrue self.new.agreed →
+        ensures step { HaveAgreed self.new.reads →
             Step self.old.state (edits.MoveBlock a b to) result self.new.state }
         ensures err { OnErr result (self.new.state ≡ self.old.state) }
         ensures same { IsReadAs self.old.state self.new.state }
-        ensures agreed { IsTrue self.new.agreed → IsTrue self.old.agreed }
+        ensures reads { Follow self.old.reads self.new.reads }
+        ensures reads_tell { IfErr result (IsRefusalOfReads self.old.reads self.new.reads) }
         ensures loaded { self.new.loaded ≡ self.old.loaded }
         ensures looks { self.new.looks ≡ self.old.looks }
         ensures memory { Rises (IsErrOf result Refusal.OutOfMemory) room.old room.new }
@@ -44,6 +47,7 @@ impl LiveVolume {
     fn block_refusal(&self, a: u32, b: u32, to: u32) -> Option<Refusal>
         ensures refusal { result ≡ block_refusal self.now.state.volume a b to }
         ensures room { IfNone result (to + (b - a) < 2 ^ 32) }
+        ensures rule { IfSome result IsRefusalOfNoRead }
     {
         if let Some(refusal) = self.range_refusal(a, b) {
             return Some(refusal);

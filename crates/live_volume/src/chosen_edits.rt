@@ -1,11 +1,12 @@
 // Edits of the traces that conditions choose. Numbers are given to them by the edits of traces that
 // follow one another: they are brought to the front of the file, in their order, and afterwards all
 // back to where they stood.
-ghost use Rattle.std.specs.Prelude.{◌≡◌, ◌*◌, ◌<◌, [], length, true, None, is_some, IsTrue, IfOk, IfErr, OnOk, OnErr, IsErrOf, ◌≢◌, IfSome};
+ghost use Rattle.std.specs.Prelude.{◌≡◌, ◌*◌, ◌<◌, [], length, true, None, is_some, IfOk, IfErr, OnOk, OnErr, IsErrOf, ◌≢◌, IfSome};
 ghost use Rattle.room.specs.Refusals.{Rises};
 ghost use Rattle.frame_cut.specs.Cuts.{IsCut};
 ghost use Rattle.frame_cut.specs.Traces.{count_of};
 ghost use Rattle.edit_overlay.specs.CountedVolume.{RisesAtMost};
+ghost use Rattle.edit_overlay.specs.Reads.{Follow, HaveAgreed};
 ghost use Rattle.bench_rules.specs.declared.chosen_edit.ChosenEdit.TheVariants as chosen_edits;
 ghost use Rattle.bench_rules.specs.declared.edit.Edit.TheVariants as edits;
 ghost use Rattle.bench_rules.specs.ChosenEdits.{bytes_after_each, count_told, has_fields as has_fields_of, refusal_of_edit, without_each};
@@ -17,6 +18,7 @@ ghost use Rattle.bench_rules.specs.RangeRefusals.{range_refusal};
 ghost use Rattle.bench_rules.specs.Steps.{Step};
 ghost use Rattle.live_volume.specs.Chosen.{IsRefusedFor};
 ghost use Rattle.live_volume.specs.Held.{with_volume, IsReadAs};
+ghost use Rattle.bench_rules.specs.ReadFaults.{IsRefusalOfNoRead, IsRefusalOfReads};
 
 use crate::live_volume::LiveVolume;
 use bench_rules::{Chosen, ChosenEdit, Field, Operand, Operator, Refusal, term_of};
@@ -37,13 +39,14 @@ impl LiveVolume {
         chosen: &Chosen,
         edit: &ChosenEdit,
     ) -> Result<Option<u32>, Refusal>
-        ensures step { IsTrue self.new.agreed →
+        ensures step { HaveAgreed self.new.reads →
             Step self.old.state (edits.OfChosen chosen.now edit.now) result self.new.state }
-        ensures told { IfOk result (λ told. IsTrue self.new.agreed → told ≡ count_told
+        ensures told { IfOk result (λ told. HaveAgreed self.new.reads → told ≡ count_told
             self.old.state.volume self.old.state.fields chosen.now) }
         ensures err { OnErr result (self.new.state ≡ self.old.state) }
         ensures same { IsReadAs self.old.state self.new.state }
-        ensures agreed { IsTrue self.new.agreed → IsTrue self.old.agreed }
+        ensures reads { Follow self.old.reads self.new.reads }
+        ensures reads_tell { IfErr result (IsRefusalOfReads self.old.reads self.new.reads) }
         ensures loaded { self.new.loaded ≡ self.old.loaded }
         ensures looks { RisesAtMost self.old.looks self.new.looks
             (edit_looks self.old.state (edits.OfChosen chosen.now edit.now)) }
@@ -70,7 +73,8 @@ impl LiveVolume {
 
     // The refusal of a range of traces: E01. Of none there is none.
     fn no_range(&self, traces: Option<(u32, u32)>) -> Option<Refusal>
-        ensures { result ≡ range_refusal self.now.state.volume traces }
+        ensures refusal { result ≡ range_refusal self.now.state.volume traces }
+        ensures rule { IfSome result IsRefusalOfNoRead }
     {
         let (first, last) = traces?;
         self.range_refusal(first, last)
@@ -109,18 +113,19 @@ impl LiveVolume {
     ) -> Result<(), Refusal>
         requires rising { AreRising 1 (count_of self.old.state.volume) traces.now }
         requires fields { has_fields_of self.old.state.fields edit.now ≡ true }
-        ensures none { OnOk result (IsTrue self.new.agreed → refusal_of_edit
+        ensures none { OnOk result (HaveAgreed self.new.reads → refusal_of_edit
             self.old.state.volume self.old.state.fields edit.now traces.now ≡ None) }
-        ensures cut { OnOk result (IsTrue self.new.agreed → IsCut (bytes_after_each
+        ensures cut { OnOk result (HaveAgreed self.new.reads → IsCut (bytes_after_each
             self.old.state.volume self.old.state.fields edit.now traces.now)
             self.old.state.reading self.old.state.limits self.new.state.volume) }
-        ensures fields { OnOk result (IsTrue self.new.agreed →
+        ensures fields { OnOk result (HaveAgreed self.new.reads →
             self.new.state.fields ≡ self.old.state.fields) }
-        ensures err { IfErr result (λ refusal. IsTrue self.new.agreed →
+        ensures err { IfErr result (λ refusal. HaveAgreed self.new.reads →
             IsRefusedFor self.old.state edit.now traces.now refusal) }
         ensures unchanged { OnErr result (self.new.state ≡ self.old.state) }
         ensures same { IsReadAs self.old.state self.new.state }
-        ensures agreed { IsTrue self.new.agreed → IsTrue self.old.agreed }
+        ensures reads { Follow self.old.reads self.new.reads }
+        ensures reads_tell { IfErr result (IsRefusalOfReads self.old.reads self.new.reads) }
         ensures loaded { self.new.loaded ≡ self.old.loaded }
         ensures looks { RisesAtMost self.old.looks self.new.looks
             (each_looks self.old.state.fields edit.now (length traces.now)) }
@@ -163,6 +168,7 @@ impl LiveVolume {
         ensures refusal { result ≡ refusal_of_edit self.now.state.volume self.now.state.fields
             edit.now [] }
         ensures other { IfSome result (λ refusal. refusal ≢ Refusal.OutOfMemory) }
+        ensures rule { IfSome result IsRefusalOfNoRead }
     {
         match edit {
             ChosenEdit::Fill { value, .. } => self.sample_value_refusal(*value),
@@ -189,20 +195,21 @@ impl LiveVolume {
         requires rising { AreRising 1 (count_of self.old.state.volume) traces.now }
         requires some { 0 < length traces.now }
         requires field { is_some (place_of_field self.old.state.fields field.now) ≡ true }
-        ensures none { OnOk result (IsTrue self.new.agreed → refusal_of_edit
+        ensures none { OnOk result (HaveAgreed self.new.reads → refusal_of_edit
             self.old.state.volume self.old.state.fields
             (chosen_edits.Renumber field.now first step) traces.now ≡ None) }
-        ensures cut { OnOk result (IsTrue self.new.agreed → IsCut (bytes_after_each
+        ensures cut { OnOk result (HaveAgreed self.new.reads → IsCut (bytes_after_each
             self.old.state.volume self.old.state.fields
             (chosen_edits.Renumber field.now first step) traces.now)
             self.old.state.reading self.old.state.limits self.new.state.volume) }
-        ensures fields { OnOk result (IsTrue self.new.agreed →
+        ensures fields { OnOk result (HaveAgreed self.new.reads →
             self.new.state.fields ≡ self.old.state.fields) }
-        ensures err { IfErr result (λ refusal. IsTrue self.new.agreed → IsRefusedFor
+        ensures err { IfErr result (λ refusal. HaveAgreed self.new.reads → IsRefusedFor
             self.old.state (chosen_edits.Renumber field.now first step) traces.now refusal) }
         ensures unchanged { OnErr result (self.new.state ≡ self.old.state) }
         ensures same { IsReadAs self.old.state self.new.state }
-        ensures agreed { IsTrue self.new.agreed → IsTrue self.old.agreed }
+        ensures reads { Follow self.old.reads self.new.reads }
+        ensures reads_tell { IfErr result (IsRefusalOfReads self.old.reads self.new.reads) }
         ensures loaded { self.new.loaded ≡ self.old.loaded }
         ensures looks { RisesAtMost self.old.looks self.new.looks (each_looks
             self.old.state.fields (chosen_edits.Renumber field.now first step)
@@ -237,21 +244,22 @@ impl LiveVolume {
         requires some { 0 < length traces.now }
         requires fields { is_some (formula_of self.old.state.fields field.now source.now steps.now)
             ≡ true }
-        ensures none { OnOk result (IsTrue self.new.agreed → refusal_of_edit
+        ensures none { OnOk result (HaveAgreed self.new.reads → refusal_of_edit
             self.old.state.volume self.old.state.fields
             (chosen_edits.Compute field.now source.now steps.now) traces.now ≡ None) }
-        ensures cut { OnOk result (IsTrue self.new.agreed → IsCut (bytes_after_each
+        ensures cut { OnOk result (HaveAgreed self.new.reads → IsCut (bytes_after_each
             self.old.state.volume self.old.state.fields
             (chosen_edits.Compute field.now source.now steps.now) traces.now)
             self.old.state.reading self.old.state.limits self.new.state.volume) }
-        ensures fields { OnOk result (IsTrue self.new.agreed →
+        ensures fields { OnOk result (HaveAgreed self.new.reads →
             self.new.state.fields ≡ self.old.state.fields) }
-        ensures err { IfErr result (λ refusal. IsTrue self.new.agreed → IsRefusedFor
+        ensures err { IfErr result (λ refusal. HaveAgreed self.new.reads → IsRefusedFor
             self.old.state (chosen_edits.Compute field.now source.now steps.now) traces.now
             refusal) }
         ensures unchanged { OnErr result (self.new.state ≡ self.old.state) }
         ensures same { IsReadAs self.old.state self.new.state }
-        ensures agreed { IsTrue self.new.agreed → IsTrue self.old.agreed }
+        ensures reads { Follow self.old.reads self.new.reads }
+        ensures reads_tell { IfErr result (IsRefusalOfReads self.old.reads self.new.reads) }
         ensures loaded { self.new.loaded ≡ self.old.loaded }
         ensures looks { RisesAtMost self.old.looks self.new.looks (2 * length traces.now) }
         ensures memory { Rises (IsErrOf result Refusal.OutOfMemory) room.old room.new }
@@ -276,7 +284,7 @@ impl LiveVolume {
         requires { AreRising 1 (count_of self.old.state.volume) traces.now }
         ensures volume { self.new.state ≡ with_volume self.old.state
             (without_each self.old.state.volume traces.now) }
-        ensures agreed { IsTrue self.new.agreed → IsTrue self.old.agreed }
+        ensures reads { Follow self.old.reads self.new.reads }
         ensures loaded { self.new.loaded ≡ self.old.loaded }
         ensures looks { self.new.looks ≡ self.old.looks }
     {

@@ -1,14 +1,15 @@
 // A field of many traces computed from numbers and other fields of each.
-ghost use Rattle.std.specs.Prelude.{◌≡◌, ◌⊎◌, ◌+◌, ◌-◌, ◌*◌, ◌≤◌, ◌<◌, length, None, IsTrue, IfOk, IfErr, OnOk, OnErr, IsErrOf};
+ghost use Rattle.std.specs.Prelude.{◌≡◌, ◌⊎◌, ◌+◌, ◌-◌, ◌*◌, ◌≤◌, ◌<◌, length, None, IfOk, IfErr, OnOk, OnErr, IsErrOf};
 ghost use Rattle.room.specs.Refusals.{Rises};
 ghost use Rattle.frame_cut.specs.Traces.{count_of};
 ghost use Rattle.edit_overlay.specs.CountedVolume.{RisesAtMost};
+ghost use Rattle.edit_overlay.specs.Reads.{Follow, HaveAgreed};
 ghost use Rattle.bench_rules.specs.declared.edit.Edit.TheVariants as edits;
 ghost use Rattle.bench_rules.specs.Computed.{compute_refusal_in};
 ghost use Rattle.bench_rules.specs.Looks.{edit_looks, looks_at};
 ghost use Rattle.bench_rules.specs.Steps.{Step};
 ghost use Rattle.many_traces.specs.Formulas.{formula_at, number_bytes, IsRefusalFor};
-ghost use Rattle.bench_rules.specs.ReadFaults.{IsReadRefusal};
+ghost use Rattle.bench_rules.specs.ReadFaults.{IsReadRefusal, IsRefusalOfReads};
 ghost use Rattle.live_volume.specs.Held.{any_moves, IsReadAs, OnlyLooks};
 ghost use Rattle.live_volume.specs.Places.{EachHolds};
 
@@ -35,16 +36,17 @@ impl LiveVolume {
         source: &Operand,
         steps: &[(Operator, Operand)],
     ) -> Result<bool, Refusal>
-        ensures step { IsTrue self.new.agreed → Step self.old.state
+        ensures step { HaveAgreed self.new.reads → Step self.old.state
             (edits.Compute a b field.now source.now steps.now) result self.new.state }
         ensures err { OnErr result (self.new.state ≡ self.old.state) }
         ensures same { IsReadAs self.old.state self.new.state }
-        ensures agreed { IsTrue self.new.agreed → IsTrue self.old.agreed }
+        ensures reads { Follow self.old.reads self.new.reads }
+        ensures reads_tell { IfErr result (IsRefusalOfReads self.old.reads self.new.reads) }
         ensures loaded { self.new.loaded ≡ self.old.loaded }
         ensures looks { RisesAtMost self.old.looks self.new.looks
             (edit_looks self.old.state (edits.Compute a b field.now source.now steps.now)) }
         ensures count { count_of self.new.state.volume ≡ count_of self.old.state.volume }
-        ensures moved { IfOk result (λ moved. IsTrue self.new.agreed →
+        ensures moved { IfOk result (λ moved. HaveAgreed self.new.reads →
             moved ≡ any_moves self.old.state self.new.state a b) }
         ensures memory { Rises (IsErrOf result Refusal.OutOfMemory) room.old room.new }
     {
@@ -84,10 +86,10 @@ impl LiveVolume {
         requires first { 1 ≤ a }
         requires range { a ≤ b }
         requires last { b ≤ count_of self.old.state.volume }
-        ensures none { IfOk result (λ _. IsTrue self.new.agreed →
+        ensures none { IfOk result (λ _. HaveAgreed self.new.reads →
             compute_refusal_in self.old.state.volume
             (formula_at self.old.state.fields place source.now steps.now) a b ≡ None) }
-        ensures bytes { IfOk result (λ bytes. IsTrue self.new.agreed →
+        ensures bytes { IfOk result (λ bytes. HaveAgreed self.new.reads →
             bytes.items ≡ number_bytes self.old.state.volume
             (formula_at self.old.state.fields place source.now steps.now) a b) }
         ensures each { IfOk result (λ _. EachHolds self.old.state.volume a (b + 1 - a) place) }
@@ -97,11 +99,12 @@ impl LiveVolume {
             (formula_at self.old.state.fields place source.now steps.now) (b + 1 - a)) }
         ensures err { IfErr result (λ refusal. (IsReadRefusal self.old.state.on_disk refusal
             × (0 < looks_at (formula_at self.old.state.fields place source.now steps.now)
-            (b + 1 - a))) ⊎ (IsTrue self.new.agreed → IsRefusalFor refusal (compute_refusal_in
+            (b + 1 - a))) ⊎ (HaveAgreed self.new.reads → IsRefusalFor refusal (compute_refusal_in
             self.old.state.volume (formula_at self.old.state.fields place source.now steps.now)
             a b))) }
         ensures seen { OnlyLooks self.old self.new
             (looks_at (formula_at self.old.state.fields place source.now steps.now) (b + 1 - a)) }
+        ensures reads_tell { IfErr result (IsRefusalOfReads self.old.reads self.new.reads) }
         ensures memory { Rises (IsErrOf result Refusal.OutOfMemory) room.old room.new }
     {
         computed_bytes(

@@ -1,5 +1,5 @@
 // One value in a range of the samples of each of chosen traces.
-ghost use Rattle.std.specs.Prelude.{◌≡◌, ◌⊎◌, ◌+◌, ◌-◌, ◌*◌, ◌<◌, ◌≤◌, ℕ, [], length, get_or, slice_index_or, None, Some, IfSome, IsTrue, IfOk, IfErr, OnOk, OnErr, IsErrOf};
+ghost use Rattle.std.specs.Prelude.{◌≡◌, ◌⊎◌, ◌+◌, ◌-◌, ◌*◌, ◌<◌, ◌≤◌, ℕ, [], length, get_or, slice_index_or, None, Some, IfSome, IfOk, IfErr, OnOk, OnErr, IsErrOf};
 ghost use Rattle.room.specs.Refusals.{Rises};
 ghost use Rattle.sample_codes.specs.Formats.{samples_bytes, values, width};
 ghost use Rattle.frame_cut.specs.Cuts.{IsCut, IsTrace};
@@ -7,13 +7,14 @@ ghost use Rattle.frame_cut.specs.Frames.{sample_count};
 ghost use Rattle.frame_cut.specs.Splice.{splice};
 ghost use Rattle.frame_cut.specs.Traces.{count_of, trace_at};
 ghost use Rattle.edit_overlay.specs.CountedVolume.{with_over, RisesAtMost};
+ghost use Rattle.edit_overlay.specs.Reads.{Follow, HaveAgreed};
 ghost use Rattle.bench_rules.specs.declared.chosen_edit.ChosenEdit.TheVariants as chosen_edits;
 ghost use Rattle.bench_rules.specs.declared.refusal.Refusal.TheVariants.{OutOfMemory as no_memory};
 ghost use Rattle.bench_rules.specs.ChosenEdits.{bytes_after_each, refusal_of_edit};
 ghost use Rattle.bench_rules.specs.Computed.{first_at};
 ghost use Rattle.bench_rules.specs.Conditions.{AreRising};
 ghost use Rattle.bench_rules.specs.FilledSamples.{filled, range_values, samples_refusal, sample_value_refusal as refusal_of_value};
-ghost use Rattle.bench_rules.specs.ReadFaults.{IsReadRefusal};
+ghost use Rattle.bench_rules.specs.ReadFaults.{IsRefusalOfNoRead, IsReadRefusal, IsRefusalOfReads};
 ghost use Rattle.bench_rules.specs.SwappedFields.{changed_each};
 ghost use Rattle.many_traces.specs.SamplePlaces.{AreSamplePlaces, HaveSampleRoom};
 ghost use Rattle.live_volume.specs.Chosen.{IsRefusedFor};
@@ -40,20 +41,21 @@ impl LiveVolume {
     ) -> Result<(), Refusal>
         requires rising { AreRising 1 (count_of self.old.state.volume) traces.now }
         requires some { 0 < length traces.now }
-        ensures none { OnOk result (IsTrue self.new.agreed → refusal_of_edit
+        ensures none { OnOk result (HaveAgreed self.new.reads → refusal_of_edit
             self.old.state.volume self.old.state.fields
             (chosen_edits.Fill first last value) traces.now ≡ None) }
-        ensures cut { OnOk result (IsTrue self.new.agreed → IsCut (bytes_after_each
+        ensures cut { OnOk result (HaveAgreed self.new.reads → IsCut (bytes_after_each
             self.old.state.volume self.old.state.fields
             (chosen_edits.Fill first last value) traces.now)
             self.old.state.reading self.old.state.limits self.new.state.volume) }
-        ensures fields { OnOk result (IsTrue self.new.agreed →
+        ensures fields { OnOk result (HaveAgreed self.new.reads →
             self.new.state.fields ≡ self.old.state.fields) }
-        ensures err { IfErr result (λ refusal. IsTrue self.new.agreed → IsRefusedFor
+        ensures err { IfErr result (λ refusal. HaveAgreed self.new.reads → IsRefusedFor
             self.old.state (chosen_edits.Fill first last value) traces.now refusal) }
         ensures unchanged { OnErr result (self.new.state ≡ self.old.state) }
         ensures same { IsReadAs self.old.state self.new.state }
-        ensures agreed { IsTrue self.new.agreed → IsTrue self.old.agreed }
+        ensures reads { Follow self.old.reads self.new.reads }
+        ensures reads_tell { IfErr result (IsRefusalOfReads self.old.reads self.new.reads) }
         ensures loaded { self.new.loaded ≡ self.old.loaded }
         ensures looks { RisesAtMost self.old.looks self.new.looks (2 * length traces.now) }
         ensures memory { Rises (IsErrOf result Refusal.OutOfMemory) room.old room.new }
@@ -74,7 +76,9 @@ impl LiveVolume {
 
     // The refusal of a value for samples, whatever trace they are of: E12, E04.
     pub(crate) fn sample_value_refusal(&self, value: i128) -> Option<Refusal>
-        ensures { result ≡ refusal_of_value (values self.now.state.volume.head.format) value }
+        ensures refusal { result ≡ refusal_of_value
+            (values self.now.state.volume.head.format) value }
+        ensures rule { IfSome result IsRefusalOfNoRead }
     {
         sample_value_refusal(self.overlay.head().format, value)
     }
@@ -88,19 +92,20 @@ impl LiveVolume {
         last: u32,
     ) -> Result<Vec<u64>, Refusal>
         requires rising { AreRising 1 (count_of self.old.state.volume) traces.now }
-        ensures none { OnOk result (IsTrue self.new.agreed → first_at
+        ensures none { OnOk result (HaveAgreed self.new.reads → first_at
             (λ p. samples_refusal self.old.state.volume.head first last
             (trace_at self.old.state.volume p)) traces.now ≡ None) }
-        ensures places { IfOk result (λ places. IsTrue self.new.agreed →
+        ensures places { IfOk result (λ places. HaveAgreed self.new.reads →
             AreSamplePlaces self.old.state.volume first traces.now places.items) }
         ensures count { IfOk result (λ places. length places.items ≡ length traces.now) }
         ensures room { IfOk result (λ places.
             HaveSampleRoom self.old.state.volume (last + 1 - first) traces.now places.items) }
         ensures err { IfErr result (λ refusal. (refusal ≡ no_memory) ⊎
-            IsReadRefusal self.old.state.on_disk refusal ⊎ (IsTrue self.new.agreed → first_at
+            IsReadRefusal self.old.state.on_disk refusal ⊎ (HaveAgreed self.new.reads → first_at
             (λ p. samples_refusal self.old.state.volume.head first last
             (trace_at self.old.state.volume p)) traces.now ≡ Some refusal)) }
         ensures seen { OnlyLooks self.old self.new (length traces.now) }
+        ensures reads_tell { IfErr result (IsRefusalOfReads self.old.reads self.new.reads) }
         ensures memory { Rises (IsErrOf result Refusal.OutOfMemory) room.old room.new }
     {
         sample_places(room, &mut self.overlay, traces, first, last)
@@ -122,21 +127,22 @@ impl LiveVolume {
         requires some { 0 < length traces.now }
         requires samples { first ≤ last }
         requires fits { refusal_of_value (values self.old.state.volume.head.format) value ≡ None }
-        requires none { IsTrue self.old.agreed → first_at
+        requires none { HaveAgreed self.old.reads → first_at
             (λ p. samples_refusal self.old.state.volume.head first last
             (trace_at self.old.state.volume p)) traces.now ≡ None }
-        requires places { IsTrue self.old.agreed →
+        requires places { HaveAgreed self.old.reads →
             AreSamplePlaces self.old.state.volume first traces.now places.now }
         requires count { length places.now ≡ length traces.now }
         requires room { HaveSampleRoom self.old.state.volume (last + 1 - first) traces.now
             places.now }
-        ensures ok { OnOk result (IsTrue self.new.agreed → self.new.state ≡ with_volume
+        ensures ok { OnOk result (HaveAgreed self.new.reads → self.new.state ≡ with_volume
             self.old.state (changed_each (filled self.old.state.volume.head first last value)
             self.old.state.volume traces.now)) }
         ensures err { IfErr result (λ refusal. IsOfMachine self.old.state.on_disk refusal ×
             (self.new.state ≡ self.old.state)) }
         ensures same { IsReadAs self.old.state self.new.state }
-        ensures agreed { IsTrue self.new.agreed → IsTrue self.old.agreed }
+        ensures reads { Follow self.old.reads self.new.reads }
+        ensures reads_tell { IfErr result (IsRefusalOfReads self.old.reads self.new.reads) }
         ensures loaded { self.new.loaded ≡ self.old.loaded }
         ensures looks { RisesAtMost self.old.looks self.new.looks (length traces.now) }
         ensures memory { Rises (IsErrOf result Refusal.OutOfMemory) room.old room.new }
@@ -170,7 +176,7 @@ impl LiveVolume {
         requires trace_last { p ≤ count_of self.now.state.volume }
         requires samples { first ≤ last }
         requires fits { refusal_of_value (values self.now.state.volume.head.format) value ≡ None }
-        ensures bytes { IfOk result (λ bytes. IsTrue self.now.agreed → samples_refusal
+        ensures bytes { IfOk result (λ bytes. HaveAgreed self.now.reads → samples_refusal
             self.now.state.volume.head first last (trace_at self.now.state.volume p) ≡ None →
             IfSome (values self.now.state.volume.head.format) (λ f. bytes.items ≡ samples_bytes
             self.now.state.volume.head.order f (range_values first last value))) }
@@ -195,7 +201,7 @@ impl LiveVolume {
     fn sample_count(&self, p: u32) -> u32
         requires first { 1 ≤ p }
         requires last { p ≤ count_of self.now.state.volume }
-        ensures { IsTrue self.now.agreed → result ≡ sample_count self.now.state.volume.head
+        ensures { HaveAgreed self.now.reads → result ≡ sample_count self.now.state.volume.head
             (trace_at self.now.state.volume p) }
     {
         self.held(p).number
@@ -216,17 +222,18 @@ impl LiveVolume {
         requires last { a - 1 + length places.now ≤ count_of self.old.state.volume }
         requires inside { (k : ℕ) → k < length places.now → get_or places.now k 0 +
             length bytes.now ≤ length (slice_index_or self.old.state.volume.traces (a - 1 + k) []) }
-        requires whole { (k : ℕ) → k < length places.now → IsTrue self.old.agreed → IsTrace
+        requires whole { (k : ℕ) → k < length places.now → HaveAgreed self.old.reads → IsTrace
             self.old.state.volume.head (splice
             (slice_index_or self.old.state.volume.traces (a - 1 + k) []) (get_or places.now k 0)
             (length bytes.now) bytes.now) }
-        requires cut { IsTrue self.old.agreed → IsCutAs self.old.state
+        requires cut { HaveAgreed self.old.reads → IsCutAs self.old.state
             (with_over self.old.state.volume a places.now bytes.now) }
         ensures ok { OnOk result (self.new.state ≡ with_volume self.old.state
             (with_over self.old.state.volume a places.now bytes.now)) }
         ensures err { IfErr result (λ refusal. IsOfMachine self.old.state.on_disk refusal ×
             (self.new.state ≡ self.old.state)) }
-        ensures agreed { IsTrue self.new.agreed → IsTrue self.old.agreed }
+        ensures reads { Follow self.old.reads self.new.reads }
+        ensures reads_tell { IfErr result (IsRefusalOfReads self.old.reads self.new.reads) }
         ensures loaded { self.new.loaded ≡ self.old.loaded }
         ensures looks { RisesAtMost self.old.looks self.new.looks (length places.now) }
         ensures memory { Rises (IsErrOf result Refusal.OutOfMemory) room.old room.new }

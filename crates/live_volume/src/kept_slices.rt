@@ -7,8 +7,9 @@ ghost use Rattle.frame_cut.specs.Cuts.{IsCut};
 ghost use Rattle.frame_cut.specs.Traces.{count_of, trace_at, trace_of};
 ghost use Rattle.frame_cut.specs.Volume.{bytes_of};
 ghost use Rattle.edit_overlay.specs.CountedVolume.{RisesAtMost};
+ghost use Rattle.edit_overlay.specs.Reads.{Follow, HaveAgreed};
 ghost use Rattle.bench_rules.specs.KeptSlices.{after_slice, kept_numbers, IsAsked};
-ghost use Rattle.time_slice.specs.Faults.{IsOfRead};
+ghost use Rattle.time_slice.specs.Faults.{IsFaultOfSlice, IsOfRead};
 ghost use Rattle.bench_rules.specs.Kept.{cell_of, is_kept};
 ghost use Rattle.bench_rules.specs.Live.{AreSlicesOf};
 ghost use Rattle.bench_rules.specs.Reports.{slice_in};
@@ -23,7 +24,7 @@ impl LiveVolume {
     /// any case each trace has a main header, and the field map binds each geometry name to a place
     /// that each trace has. Does nothing: its contract is the law.
     pub fn stands(&self)
-        ensures cut { IsTrue self.now.agreed → IsCut (bytes_of self.now.state.volume)
+        ensures cut { HaveAgreed self.now.reads → IsCut (bytes_of self.now.state.volume)
             self.now.state.reading self.now.state.limits self.now.state.volume }
         ensures headers { (p : ℕ) → 1 ≤ p → p ≤ count_of self.now.state.volume →
             TRACE_HEADER_BYTES ≤ length (trace_at self.now.state.volume p) }
@@ -35,7 +36,7 @@ impl LiveVolume {
 
     /// In memory each read agrees. Does nothing: its contract is the law.
     pub fn memory_agrees(&self)
-        ensures { self.now.state.on_disk ≡ false → IsTrue self.now.agreed }
+        ensures { self.now.state.on_disk ≡ false → HaveAgreed self.now.reads }
     {
         self.overlay.memory_agrees();
     }
@@ -43,7 +44,7 @@ impl LiveVolume {
     /// Inline and crossline of trace p, counted from 1; `None` where there is no such trace. Takes
     /// no memory and looks at none.
     pub fn cell(&self, p: u32) -> Option<(i32, i32)>
-        ensures { IsTrue self.now.agreed → result ≡ option_map
+        ensures { HaveAgreed self.now.reads → result ≡ option_map
             (cell_of self.now.state.volume.head self.now.state.fields)
             (trace_of self.now.state.volume p) }
     {
@@ -61,10 +62,10 @@ impl LiveVolume {
         slices: &mut SliceCache,
         k: u32,
     ) -> Result<Vec<Row>, SliceFault>
-        requires { IsTrue self.old.agreed → AreSlicesOf self.old.state slices.old.entries }
-        ensures rows { IfOk result (λ rows. IsTrue self.new.agreed →
+        requires { HaveAgreed self.old.reads → AreSlicesOf self.old.state slices.old.entries }
+        ensures rows { IfOk result (λ rows. HaveAgreed self.new.reads →
             rows.items ≡ slice_in self.old.state k) }
-        ensures ok { OnOk result (IsTrue self.new.agreed →
+        ensures ok { OnOk result (HaveAgreed self.new.reads →
             slices.new ≡ after_slice slices.old k (slice_in self.old.state k)) }
         ensures asked { IfOk result (λ rows. IsAsked slices.old slices.new k rows.items) }
         ensures err { OnErr result (slices.new ≡ slices.old) }
@@ -72,7 +73,8 @@ impl LiveVolume {
             × (0 < count_of self.old.state.volume)
             × IsFalse (is_kept k (kept_numbers slices.old.entries))) }
         ensures state { self.new.state ≡ self.old.state }
-        ensures agreed { IsTrue self.new.agreed → IsTrue self.old.agreed }
+        ensures reads { Follow self.old.reads self.new.reads }
+        ensures reads_tell { IfErr result (IsFaultOfSlice self.old.reads self.new.reads) }
         ensures loaded { self.new.loaded ≡ self.old.loaded }
         ensures looks { RisesAtMost self.old.looks self.new.looks
             (if is_kept k (kept_numbers slices.old.entries) then 0

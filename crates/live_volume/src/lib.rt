@@ -13,8 +13,8 @@
 //! The bytes that were loaded may stay on disk. A look at a trace reads them there, and is refused
 //! where the read fails (E14) or shows that the file is another than was loaded (E15); the edit or
 //! query is refused then, and nothing is changed. What is claimed of contents is claimed where each
-//! read since the load gave the bytes that the load read (`agreed`): always in memory. Lengths and
-//! counts are claimed in any case, so that no call fails whatever a read gives.
+//! read since the load gave the bytes that the load read (`HaveAgreed`): always in memory. Lengths
+//! and counts are claimed in any case, so that no call fails whatever a read gives.
 //!
 //! `load` takes memory for the file's bytes, the list of its traces, the six geometry names and the
 //! records with what has counted them; `apply` for `Set`, `Map`, `MapAs`, `Patch`, `Blank`, `Copy`,

@@ -14,6 +14,7 @@ ghost use Rattle.bench_rules.specs.declared.edit.Edit.TheVariants as edits;
 ghost use Rattle.bench_rules.specs.declared.field.Field.TheVariants as fields;
 ghost use Rattle.bench_rules.specs.declared.refusal.Refusal.TheVariants.{OutOfMemory as no_memory};
 ghost use Rattle.edit_overlay.specs.CountedVolume.{RisesAtMost};
+ghost use Rattle.edit_overlay.specs.Reads.{Follow, HaveAgreed, IsFaultOfLook};
 ghost use Rattle.bench_rules.specs.Looks.{load_looks, edit_looks, put_looks, query_looks, trace_looks};
 ghost use Rattle.bench_rules.specs.Places.{leaves_length as leaves_length_of, place_in_trace};
 ghost use Rattle.bench_rules.specs.Refused.{first_refusal};
@@ -22,6 +23,7 @@ ghost use Rattle.bench_rules.specs.Answer.{IsReply};
 ghost use Rattle.live_volume.specs.Held.{IsReadAs};
 ghost use Rattle.live_volume.specs.Refusals.{IsOfMachine};
 ghost use Rattle.volume_answers.specs.Rooms.{HasRoom};
+ghost use Rattle.bench_rules.specs.ReadFaults.{IsFaultOfReads, IsRefusalOfReads};
 
 use crate::number_edits::leaves_length;
 use crate::volume_edits::refusal_of_records;
@@ -103,7 +105,7 @@ impl LiveVolume {
         ensures limits { IfOk result (λ b. b.state.limits ≡ limits) }
         ensures in_memory { IfOk result (λ b. b.state.on_disk ≡ false) }
         ensures loaded { IfOk result (λ b. b.loaded ≡ bytes_of b.state.volume) }
-        ensures agreed { IfOk result (λ b. IsTrue b.agreed) }
+        ensures reads { IfOk result (λ b. HaveAgreed b.reads) }
         ensures refused { IfErr result (λ fault. IsLoadFault (R.remaining reader.old.inner) reading
             limits fault) }
         ensures read { IfErr result (λ _. TakesWithin (R.remaining reader.old.inner)
@@ -136,14 +138,16 @@ impl LiveVolume {
     /// `MapAs`, `Patch`, `Blank`, `Copy`, `Move`, `MoveBlock`, `Resize`, `Renumber`, `Compute`,
     /// `Sort` and `OfChosen` take memory, and are refused for want of it, E11, only where nothing
     /// else refuses them; `OfChosen`, whose traces have to be listed first, in the place of any
-    /// refusal but E01. On disk an edit that looks is also refused where a trace could not be read
-    /// (E14, E15).
+    /// refusal but E01. On disk an edit that looks is also refused where a trace could not be
+    /// read: E14, only where a read failed in this call; E15, only where one since the load gave
+    /// other bytes.
     pub fn apply(&mut self, room: &mut Room, edit: &Edit) -> Result<(), Refusal>
-        ensures step { IsTrue self.new.agreed →
+        ensures step { HaveAgreed self.new.reads →
             Step self.old.state edit.now result self.new.state }
         ensures err { OnErr result (self.new.state ≡ self.old.state) }
         ensures same { IsReadAs self.old.state self.new.state }
-        ensures agreed { IsTrue self.new.agreed → IsTrue self.old.agreed }
+        ensures reads { Follow self.old.reads self.new.reads }
+        ensures reads_tell { IfErr result (IsRefusalOfReads self.old.reads self.new.reads) }
         ensures loaded { self.new.loaded ≡ self.old.loaded }
         ensures looks { RisesAtMost self.old.looks self.new.looks
             (edit_looks self.old.state edit.now) }
@@ -223,11 +227,12 @@ impl LiveVolume {
         field: &Field,
         value: i128,
     ) -> Result<(), Refusal>
-        ensures step { IsTrue self.new.agreed →
+        ensures step { HaveAgreed self.new.reads →
             Step self.old.state (edits.Set p field.now value) result self.new.state }
         ensures err { OnErr result (self.new.state ≡ self.old.state) }
         ensures same { IsReadAs self.old.state self.new.state }
-        ensures agreed { IsTrue self.new.agreed → IsTrue self.old.agreed }
+        ensures reads { Follow self.old.reads self.new.reads }
+        ensures reads_tell { IfErr result (IsRefusalOfReads self.old.reads self.new.reads) }
         ensures loaded { self.new.loaded ≡ self.old.loaded }
         ensures looks { RisesAtMost self.old.looks self.new.looks
             (edit_looks self.old.state (edits.Set p field.now value)) }
@@ -244,11 +249,12 @@ impl LiveVolume {
     // and no value there gives it another length, of the value only E04 may come, and no look is
     // needed for it.
     fn set(&mut self, room: &mut Room, p: u32, place: Place, value: i128) -> Result<(), Refusal>
-        ensures step { IsTrue self.new.agreed →
+        ensures step { HaveAgreed self.new.reads →
             Step self.old.state (edits.Set p (fields.Place place) value) result self.new.state }
         ensures err { OnErr result (self.new.state ≡ self.old.state) }
         ensures same { IsReadAs self.old.state self.new.state }
-        ensures agreed { IsTrue self.new.agreed → IsTrue self.old.agreed }
+        ensures reads { Follow self.old.reads self.new.reads }
+        ensures reads_tell { IfErr result (IsRefusalOfReads self.old.reads self.new.reads) }
         ensures loaded { self.new.loaded ≡ self.old.loaded }
         ensures looks { RisesAtMost self.old.looks self.new.looks (put_looks self.old.state.fields
             (Some place) (trace_looks self.old.state.volume p 2)) }
@@ -274,11 +280,12 @@ impl LiveVolume {
         value: i128,
     ) -> Result<(), Refusal>
         requires { IsTrue (is_trace self.old.state.volume p) → leaves_length_of place ≡ false }
-        ensures step { IsTrue self.new.agreed →
+        ensures step { HaveAgreed self.new.reads →
             Step self.old.state (edits.Set p (fields.Place place) value) result self.new.state }
         ensures err { OnErr result (self.new.state ≡ self.old.state) }
         ensures same { IsReadAs self.old.state self.new.state }
-        ensures agreed { IsTrue self.new.agreed → IsTrue self.old.agreed }
+        ensures reads { Follow self.old.reads self.new.reads }
+        ensures reads_tell { IfErr result (IsRefusalOfReads self.old.reads self.new.reads) }
         ensures loaded { self.new.loaded ≡ self.old.loaded }
         ensures looks { RisesAtMost self.old.looks self.new.looks
             (trace_looks self.old.state.volume p 2) }
@@ -300,14 +307,15 @@ impl LiveVolume {
         value: i128,
     ) -> Result<(), Refusal>
         requires room { HasRoom self.old.state.volume p place value }
-        requires none { IsTrue self.old.agreed →
+        requires none { HaveAgreed self.old.reads →
             first_refusal self.old.state (edits.Set p (fields.Place place) value) ≡ None }
-        ensures ok { OnOk result (IsTrue self.new.agreed → IsAfter self.old.state
+        ensures ok { OnOk result (HaveAgreed self.new.reads → IsAfter self.old.state
             (edits.Set p (fields.Place place) value) self.new.state) }
         ensures err { IfErr result (λ refusal. IsOfMachine self.old.state.on_disk refusal ×
             (self.new.state ≡ self.old.state)) }
         ensures same { IsReadAs self.old.state self.new.state }
-        ensures agreed { IsTrue self.new.agreed → IsTrue self.old.agreed }
+        ensures reads { Follow self.old.reads self.new.reads }
+        ensures reads_tell { IfErr result (IsRefusalOfReads self.old.reads self.new.reads) }
         ensures loaded { self.new.loaded ≡ self.old.loaded }
         ensures looks { RisesAtMost self.old.looks self.new.looks 1 }
         ensures told { IsTrue (tells_record self.old.state.fields (offset_of place)
@@ -324,11 +332,12 @@ impl LiveVolume {
 
     // The value into the field of the binary header, or the first refusal: E02, E03, E04, E06.
     fn set_bin(&mut self, field: &Field, value: i128) -> Result<(), Refusal>
-        ensures step { IsTrue self.new.agreed →
+        ensures step { HaveAgreed self.new.reads →
             Step self.old.state (edits.SetBin field.now value) result self.new.state }
         ensures err { OnErr result (self.new.state ≡ self.old.state) }
         ensures same { IsReadAs self.old.state self.new.state }
-        ensures agreed { IsTrue self.new.agreed → IsTrue self.old.agreed }
+        ensures reads { Follow self.old.reads self.new.reads }
+        ensures reads_tell { IfErr result (IsRefusalOfReads self.old.reads self.new.reads) }
         ensures loaded { self.new.loaded ≡ self.old.loaded }
         ensures looks { self.new.looks ≡ self.old.looks }
         ensures other { IfErr result (λ refusal. refusal ≢ Refusal.OutOfMemory) }
@@ -348,10 +357,10 @@ impl LiveVolume {
     // The value into the place of the binary header, where nothing refuses it.
     fn put_in_binary(&mut self, place: Place, value: i128)
         requires { first_refusal self.old.state (edits.SetBin (fields.Place place) value) ≡ None }
-        ensures after { IsTrue self.new.agreed → IsAfter self.old.state
+        ensures after { HaveAgreed self.new.reads → IsAfter self.old.state
             (edits.SetBin (fields.Place place) value) self.new.state }
         ensures same { IsReadAs self.old.state self.new.state }
-        ensures agreed { IsTrue self.new.agreed → IsTrue self.old.agreed }
+        ensures reads { Follow self.old.reads self.new.reads }
         ensures loaded { self.new.loaded ≡ self.old.loaded }
         ensures looks { self.new.looks ≡ self.old.looks }
     {
@@ -363,11 +372,12 @@ impl LiveVolume {
 
     // The text as line q of the textual header, or the first refusal: E03, E07.
     fn set_text(&mut self, q: u32, text: &Text) -> Result<(), Refusal>
-        ensures step { IsTrue self.new.agreed →
+        ensures step { HaveAgreed self.new.reads →
             Step self.old.state (edits.SetText q text.now) result self.new.state }
         ensures err { OnErr result (self.new.state ≡ self.old.state) }
         ensures same { IsReadAs self.old.state self.new.state }
-        ensures agreed { IsTrue self.new.agreed → IsTrue self.old.agreed }
+        ensures reads { Follow self.old.reads self.new.reads }
+        ensures reads_tell { IfErr result (IsRefusalOfReads self.old.reads self.new.reads) }
         ensures loaded { self.new.loaded ≡ self.old.loaded }
         ensures looks { self.new.looks ≡ self.old.looks }
         ensures other { IfErr result (λ refusal. refusal ≢ Refusal.OutOfMemory) }
@@ -382,11 +392,12 @@ impl LiveVolume {
 
     // The name bound to the place of the field, or the first refusal: E02, E08.
     fn bind(&mut self, room: &mut Room, name: &Text, field: &Field) -> Result<(), Refusal>
-        ensures step { IsTrue self.new.agreed →
+        ensures step { HaveAgreed self.new.reads →
             Step self.old.state (edits.Map name.now field.now) result self.new.state }
         ensures err { OnErr result (self.new.state ≡ self.old.state) }
         ensures same { IsReadAs self.old.state self.new.state }
-        ensures agreed { IsTrue self.new.agreed → IsTrue self.old.agreed }
+        ensures reads { Follow self.old.reads self.new.reads }
+        ensures reads_tell { IfErr result (IsRefusalOfReads self.old.reads self.new.reads) }
         ensures loaded { self.new.loaded ≡ self.old.loaded }
         ensures looks { RisesAtMost self.old.looks self.new.looks
             (edit_looks self.old.state (edits.Map name.now field.now)) }
@@ -400,11 +411,12 @@ impl LiveVolume {
 
     // The name bound to the place, or the first refusal.
     fn bind_to(&mut self, room: &mut Room, name: &Text, place: Place) -> Result<(), Refusal>
-        ensures step { IsTrue self.new.agreed →
+        ensures step { HaveAgreed self.new.reads →
             Step self.old.state (edits.Map name.now (fields.Place place)) result self.new.state }
         ensures err { OnErr result (self.new.state ≡ self.old.state) }
         ensures same { IsReadAs self.old.state self.new.state }
-        ensures agreed { IsTrue self.new.agreed → IsTrue self.old.agreed }
+        ensures reads { Follow self.old.reads self.new.reads }
+        ensures reads_tell { IfErr result (IsRefusalOfReads self.old.reads self.new.reads) }
         ensures loaded { self.new.loaded ≡ self.old.loaded }
         ensures looks { RisesAtMost self.old.looks self.new.looks
             (edit_looks self.old.state (edits.Map name.now (fields.Place place))) }
@@ -423,11 +435,12 @@ impl LiveVolume {
     // its old place again, which takes no memory.
     fn bind_geometry(&mut self, room: &mut Room, name: &Text, place: Place) -> Result<(), Refusal>
         requires { is_geometry_name name.now ≡ true }
-        ensures step { IsTrue self.new.agreed →
+        ensures step { HaveAgreed self.new.reads →
             Step self.old.state (edits.Map name.now (fields.Place place)) result self.new.state }
         ensures err { OnErr result (self.new.state ≡ self.old.state) }
         ensures same { IsReadAs self.old.state self.new.state }
-        ensures agreed { IsTrue self.new.agreed → IsTrue self.old.agreed }
+        ensures reads { Follow self.old.reads self.new.reads }
+        ensures reads_tell { IfErr result (IsRefusalOfReads self.old.reads self.new.reads) }
         ensures loaded { self.new.loaded ≡ self.old.loaded }
         ensures looks { RisesAtMost self.old.looks self.new.looks
             (count_of self.old.state.volume) }
@@ -457,11 +470,12 @@ impl LiveVolume {
     // Another name bound to the place, or the first refusal.
     fn bind_name(&mut self, room: &mut Room, name: &Text, place: Place) -> Result<(), Refusal>
         requires { is_geometry_name name.now ≡ false }
-        ensures step { IsTrue self.new.agreed →
+        ensures step { HaveAgreed self.new.reads →
             Step self.old.state (edits.Map name.now (fields.Place place)) result self.new.state }
         ensures err { OnErr result (self.new.state ≡ self.old.state) }
         ensures same { IsReadAs self.old.state self.new.state }
-        ensures agreed { IsTrue self.new.agreed → IsTrue self.old.agreed }
+        ensures reads { Follow self.old.reads self.new.reads }
+        ensures reads_tell { IfErr result (IsRefusalOfReads self.old.reads self.new.reads) }
         ensures loaded { self.new.loaded ≡ self.old.loaded }
         ensures looks { self.new.looks ≡ self.old.looks }
         ensures memory { Rises (IsErrOf result Refusal.OutOfMemory) room.old room.new }
@@ -472,11 +486,12 @@ impl LiveVolume {
 
     // The name no longer bound, or the first refusal.
     fn unbind(&mut self, name: &Text) -> Result<(), Refusal>
-        ensures step { IsTrue self.new.agreed →
+        ensures step { HaveAgreed self.new.reads →
             Step self.old.state (edits.Unmap name.now) result self.new.state }
         ensures err { OnErr result (self.new.state ≡ self.old.state) }
         ensures same { IsReadAs self.old.state self.new.state }
-        ensures agreed { IsTrue self.new.agreed → IsTrue self.old.agreed }
+        ensures reads { Follow self.old.reads self.new.reads }
+        ensures reads_tell { IfErr result (IsRefusalOfReads self.old.reads self.new.reads) }
         ensures loaded { self.new.loaded ≡ self.old.loaded }
         ensures looks { self.new.looks ≡ self.old.looks }
         ensures other { IfErr result (λ refusal. refusal ≢ Refusal.OutOfMemory) }
@@ -487,11 +502,13 @@ impl LiveVolume {
 
     /// The answer to a query, which leaves the state as it is. Takes memory where the answer is a
     /// text or a list, and is refused for want of it, E11, only where nothing else refuses it. On
-    /// disk a query that looks is also refused where a trace could not be read (E14, E15).
+    /// disk a query that looks is also refused where a trace could not be read (E14, E15, only as
+    /// an edit is).
     pub fn ask(&mut self, room: &mut Room, query: &Query) -> Result<Answer, AskFault>
-        ensures reply { IsTrue self.new.agreed → IsReply self.old.state query.now result }
+        ensures reply { HaveAgreed self.new.reads → IsReply self.old.state query.now result }
         ensures unchanged { self.new.state ≡ self.old.state }
-        ensures agreed { IsTrue self.new.agreed → IsTrue self.old.agreed }
+        ensures reads { Follow self.old.reads self.new.reads }
+        ensures reads_tell { IfErr result (IsFaultOfReads self.old.reads self.new.reads) }
         ensures loaded { self.new.loaded ≡ self.old.loaded }
         ensures looks { RisesAtMost self.old.looks self.new.looks
             (query_looks self.old.state [] query.now) }
@@ -546,7 +563,8 @@ impl LiveVolume {
 
     /// Trace p, counted from 1, and one look more; None where there is none, and then no look. On
     /// disk the trace is read, and refused where the file fails or gives other bytes than it gave
-    /// when it was loaded, as far as its length tells. Takes no memory.
+    /// when it was loaded, as far as its length tells: only where a read failed, or gave others.
+    /// Takes no memory.
     pub fn look(&mut self, p: u32) -> Result<Option<TraceView<'_>>, ReadFault>
         ensures* ends { sem 𝓛 (EndsLooked self.entry p result) }
         ensures there { IfOk result
@@ -569,13 +587,15 @@ impl LiveVolume {
     /// the loaded bytes did; `written` is then the length of the prefix that the writer took. Takes
     /// no memory.
     pub fn save<W: Write>(&mut self, writer: &mut Sink<W>) -> Result<(), SaveFault>
-        ensures saved { IsTrue self.new.agreed → Saves (W.contents writer.old.inner)
+        ensures saved { HaveAgreed self.new.reads → Saves (W.contents writer.old.inner)
             (W.contents writer.new.inner) (bytes_of self.old.state.volume) result }
         ensures read { IfErr result
             (λ fault. IsSome fault.read → IsTrue self.old.state.on_disk) }
+        ensures reads_tell { IfErr result (λ fault. IfSome fault.read
+            (IsFaultOfLook self.old.reads self.new.reads)) }
         ensures failures { CountsSaveFailure result writer.old.failures writer.new.failures }
         ensures unchanged { self.new.state ≡ self.old.state }
-        ensures agreed { IsTrue self.new.agreed → IsTrue self.old.agreed }
+        ensures reads { Follow self.old.reads self.new.reads }
         ensures loaded { self.new.loaded ≡ self.old.loaded }
         ensures looks { self.new.looks ≡ self.old.looks }
     {

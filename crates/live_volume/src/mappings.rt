@@ -7,13 +7,15 @@ ghost use Rattle.frame_cut.specs.Volume.{bytes_of};
 ghost use Rattle.trace_record.specs.Facts.{facts_of};
 ghost use Rattle.trace_record.specs.Packed.{record_in};
 ghost use Rattle.edit_overlay.specs.CountedVolume.{RisesAtMost};
+ghost use Rattle.edit_overlay.specs.Reads.{Follow, HaveAgreed};
 ghost use Rattle.live_reports.specs.OfRecords.{AreReportsOf};
-ghost use Rattle.volume_records.specs.Faults.{IsOfRead};
+ghost use Rattle.volume_records.specs.Faults.{IsFaultOfRecords, IsOfRead};
 ghost use Rattle.volume_records.specs.OfVolume.{numbers_of, records_of};
 ghost use Rattle.bench_rules.specs.declared.edit.Edit.TheVariants as edits;
 ghost use Rattle.bench_rules.specs.Mappings.{MayBeBound, all_bound};
 ghost use Rattle.bench_rules.specs.Steps.{Step};
 ghost use Rattle.live_volume.specs.Held.{IsReadAs};
+ghost use Rattle.bench_rules.specs.ReadFaults.{IsRefusalOfReads};
 
 use crate::live_volume::LiveVolume;
 use crate::volume_edits::refusal_of_records;
@@ -31,11 +33,12 @@ impl LiveVolume {
     // all is as it was. Each trace is looked at once for its new record. Refused for want of memory
     // (E11), or on disk where a trace could not be read (E14, E15).
     pub(crate) fn map_as(&mut self, room: &mut Room, mapping: Mapping) -> Result<(), Refusal>
-        ensures step { IsTrue self.new.agreed →
+        ensures step { HaveAgreed self.new.reads →
             Step self.old.state (edits.MapAs mapping) result self.new.state }
         ensures err { OnErr result (self.new.state ≡ self.old.state) }
         ensures same { IsReadAs self.old.state self.new.state }
-        ensures agreed { IsTrue self.new.agreed → IsTrue self.old.agreed }
+        ensures reads { Follow self.old.reads self.new.reads }
+        ensures reads_tell { IfErr result (IsRefusalOfReads self.old.reads self.new.reads) }
         ensures loaded { self.new.loaded ≡ self.old.loaded }
         ensures looks { RisesAtMost self.old.looks self.new.looks
             (count_of self.old.state.volume) }
@@ -71,7 +74,7 @@ fn remake_under(
         (fields.new.pairs ≡ all_bound fields.old.pairs (rows_shown names.now)) }
     ensures kept { OnErr result (fields.new.pairs ≡ fields.old.pairs) }
     ensures extensions { fields.new.extensions ≡ fields.old.extensions }
-    ensures records { OnOk result (IsTrue overlay.new.agreed →
+    ensures records { OnOk result (HaveAgreed overlay.new.reads →
         map facts_of (map record_in overlay.new.payloads) ≡
         records_of overlay.old.volume fields.new.pairs) }
     ensures reports { IfOk result (λ r. AreReportsOf r (map record_in overlay.new.payloads)) }
@@ -87,7 +90,8 @@ fn remake_under(
     ensures prepared { overlay.new.prepared ≡ overlay.old.volume }
     ensures loaded { overlay.new.loaded ≡ overlay.old.loaded }
     ensures looks { RisesAtMost overlay.old.looks overlay.new.looks (count_of overlay.old.volume) }
-    ensures agreed { IsTrue overlay.new.agreed → IsTrue overlay.old.agreed }
+    ensures reads { Follow overlay.old.reads overlay.new.reads }
+    ensures reads_tell { IfErr result (IsFaultOfRecords overlay.old.reads overlay.new.reads) }
     ensures memory { Rises (IsErrOf result RecordsFault.OutOfMemory) room.old room.new }
 {
     let Some(((name, place), rest)) = names.split_first() else {

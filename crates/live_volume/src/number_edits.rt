@@ -9,12 +9,13 @@ ghost use Rattle.field_map.specs.Places.{offset_of};
 ghost use Rattle.frame_cut.specs.Traces.{count_of, is_trace, trace_at};
 ghost use Rattle.trace_record.specs.Told.{tells_record};
 ghost use Rattle.edit_overlay.specs.CountedVolume.{RisesAtMost};
+ghost use Rattle.edit_overlay.specs.Reads.{Follow, HaveAgreed, IsFaultOfLook};
 ghost use Rattle.bench_rules.specs.declared.edit.Edit.TheVariants as edits;
 ghost use Rattle.bench_rules.specs.declared.field.Field.TheVariants as fields;
 ghost use Rattle.bench_rules.specs.declared.refusal.Refusal.TheVariants.{OutOfMemory as no_memory};
 ghost use Rattle.bench_rules.specs.Looks.{edit_looks, trace_looks};
 ghost use Rattle.bench_rules.specs.Places.{leaves_length as leaves_length_of};
-ghost use Rattle.bench_rules.specs.ReadFaults.{IsReadRefusal};
+ghost use Rattle.bench_rules.specs.ReadFaults.{IsRefusalOfNoRead, IsReadRefusal, IsRefusalOfReads};
 ghost use Rattle.bench_rules.specs.Refused.{first_refusal, first_refusal_among, no_trace, no_trace_from, set_refusal};
 ghost use Rattle.bench_rules.specs.Steps.{IsAfter, Step};
 ghost use Rattle.bench_rules.specs.TraceEdits.{counted, numbers, resized as bytes_resized};
@@ -37,11 +38,12 @@ use volume_records::record_of_bytes;
 impl LiveVolume {
     // Trace p with so many samples, or the first refusal: E01, E04, E06, E09.
     pub(crate) fn resize(&mut self, room: &mut Room, p: u32, count: i128) -> Result<(), Refusal>
-        ensures step { IsTrue self.new.agreed →
+        ensures step { HaveAgreed self.new.reads →
             Step self.old.state (edits.Resize p count) result self.new.state }
         ensures err { OnErr result (self.new.state ≡ self.old.state) }
         ensures same { IsReadAs self.old.state self.new.state }
-        ensures agreed { IsTrue self.new.agreed → IsTrue self.old.agreed }
+        ensures reads { Follow self.old.reads self.new.reads }
+        ensures reads_tell { IfErr result (IsRefusalOfReads self.old.reads self.new.reads) }
         ensures loaded { self.new.loaded ≡ self.old.loaded }
         ensures looks { RisesAtMost self.old.looks self.new.looks
             (trace_looks self.old.state.volume p 2) }
@@ -56,16 +58,18 @@ impl LiveVolume {
     // The bytes of trace p with so many samples, or the first refusal, in one look: E01, E04, E06,
     // E09; else E11 alone.
     fn resized_bytes(&mut self, room: &mut Room, p: u32, count: i128) -> Result<Vec<u8>, Refusal>
-        ensures none { IfOk result (λ _. IsTrue self.new.agreed →
+        ensures none { IfOk result (λ _. HaveAgreed self.new.reads →
             first_refusal self.old.state (edits.Resize p count) ≡ None) }
-        ensures bytes { IfOk result (λ bytes. IsTrue self.new.agreed → bytes.items ≡ bytes_resized
-            self.old.state.volume.head (trace_at self.old.state.volume p) (nat_abs count)) }
+        ensures bytes { IfOk result (λ bytes. HaveAgreed self.new.reads → bytes.items ≡
+            bytes_resized self.old.state.volume.head (trace_at self.old.state.volume p)
+            (nat_abs count)) }
         ensures fits { IfOk result (λ bytes. MayReplace self.old.state p bytes.items) }
         ensures err { IfErr result (λ refusal. (IsTrue (is_trace self.old.state.volume p) ×
             IsReadRefusal self.old.state.on_disk refusal)
-            ⊎ (IsTrue self.new.agreed → IsRefusalFor refusal
+            ⊎ (HaveAgreed self.new.reads → IsRefusalFor refusal
             (first_refusal self.old.state (edits.Resize p count)))) }
         ensures seen { OnlyLooks self.old self.new (trace_looks self.old.state.volume p 1) }
+        ensures reads_tell { IfErr result (IsRefusalOfReads self.old.reads self.new.reads) }
         ensures memory { Rises (IsErrOf result Refusal.OutOfMemory) room.old room.new }
     {
         let length = self.overlay.length();
@@ -96,16 +100,17 @@ impl LiveVolume {
         first: i128,
         step: i128,
     ) -> Result<bool, Refusal>
-        ensures step { IsTrue self.new.agreed → Step self.old.state
+        ensures step { HaveAgreed self.new.reads → Step self.old.state
             (edits.Renumber a b field.now first step) result self.new.state }
         ensures err { OnErr result (self.new.state ≡ self.old.state) }
         ensures same { IsReadAs self.old.state self.new.state }
-        ensures agreed { IsTrue self.new.agreed → IsTrue self.old.agreed }
+        ensures reads { Follow self.old.reads self.new.reads }
+        ensures reads_tell { IfErr result (IsRefusalOfReads self.old.reads self.new.reads) }
         ensures loaded { self.new.loaded ≡ self.old.loaded }
         ensures looks { RisesAtMost self.old.looks self.new.looks
             (edit_looks self.old.state (edits.Renumber a b field.now first step)) }
         ensures count { count_of self.new.state.volume ≡ count_of self.old.state.volume }
-        ensures moved { IfOk result (λ moved. IsTrue self.new.agreed →
+        ensures moved { IfOk result (λ moved. HaveAgreed self.new.reads →
             moved ≡ any_moves self.old.state self.new.state a b) }
         ensures memory { Rises (IsErrOf result Refusal.OutOfMemory) room.old room.new }
     {
@@ -123,8 +128,9 @@ impl LiveVolume {
 
     // The first refusal of a range of traces: E01.
     pub(crate) fn range_refusal(&self, a: u32, b: u32) -> Option<Refusal>
-        ensures { result ≡ option_or (no_trace self.now.state.volume a)
+        ensures refusal { result ≡ option_or (no_trace self.now.state.volume a)
             (no_trace_from self.now.state.volume a b) }
+        ensures rule { IfSome result IsRefusalOfNoRead }
     {
         match self.no_trace(a) {
             Some(refusal) => Some(refusal),
@@ -147,7 +153,7 @@ impl LiveVolume {
         requires first { 1 ≤ a }
         requires range { a ≤ b }
         requires last { b ≤ count_of self.old.state.volume }
-        ensures refusal { IfOk result (λ refusal. IsTrue self.new.agreed → refusal ≡
+        ensures refusal { IfOk result (λ refusal. HaveAgreed self.new.reads → refusal ≡
             first_refusal_among self.old.state.volume (Some place) (numbers a b first step)) }
         ensures each { IfOk result (λ refusal. refusal ≡ None →
             EachHolds self.old.state.volume a (b + 1 - a) place) }
@@ -155,8 +161,10 @@ impl LiveVolume {
             IsTrue (fits place.kind (counted first step k))) }
         ensures seen { OnlyLooks self.old self.new
             (if leaves_length_of place then 0 else b + 1 - a) }
+        ensures reads_tell { IfErr result (IsFaultOfLook self.old.reads self.new.reads) }
         ensures other { IfOk result
             (λ refusal. IfSome refusal (λ r. r ≢ Refusal.OutOfMemory)) }
+        ensures rule { IfOk result (λ refusal. IfSome refusal IsRefusalOfNoRead) }
         ensures read { IfErr result (λ _. IsTrue self.old.state.on_disk
             × (leaves_length_of place ≡ false)) }
     {
@@ -186,12 +194,13 @@ impl LiveVolume {
         requires range { a ≤ b }
         requires last { b ≤ count_of self.now.state.volume }
         requires place { IsTrue (leaves_length_of place) }
-        ensures refusal { IsTrue self.now.agreed → result ≡
+        ensures refusal { HaveAgreed self.now.reads → result ≡
             first_refusal_among self.now.state.volume (Some place) (numbers a b first step) }
         ensures each { EachHolds self.now.state.volume a (b + 1 - a) place }
         ensures fit { result ≡ None → (k : ℕ) → k < b + 1 - a →
             IsTrue (fits place.kind (counted first step k)) }
         ensures other { IfSome result (λ r. r ≢ Refusal.OutOfMemory) }
+        ensures rule { IfSome result IsRefusalOfNoRead }
     {
         self.stands();
         if ends_fit(place.kind, first, step, b - a) {
@@ -212,7 +221,7 @@ impl LiveVolume {
         k: u32,
     ) -> Result<Option<Refusal>, ReadFault>
         requires { IsTrue (is_trace self.old.state.volume p) }
-        ensures refusal { IfOk result (λ refusal. IsTrue self.new.agreed →
+        ensures refusal { IfOk result (λ refusal. HaveAgreed self.new.reads →
             refusal ≡ set_refusal self.old.state.volume.head
             (trace_at self.old.state.volume p) (Some place) (counted first step k)) }
         ensures each { IfOk result (λ refusal. refusal ≡ None →
@@ -220,8 +229,10 @@ impl LiveVolume {
         ensures fit { IfOk result (λ refusal. refusal ≡ None →
             IsTrue (fits place.kind (counted first step k))) }
         ensures seen { OnlyLooks self.old self.new 1 }
+        ensures reads_tell { IfErr result (IsFaultOfLook self.old.reads self.new.reads) }
         ensures other { IfOk result
             (λ refusal. IfSome refusal (λ r. r ≢ Refusal.OutOfMemory)) }
+        ensures rule { IfOk result (λ refusal. IfSome refusal IsRefusalOfNoRead) }
         ensures read { IfErr result (λ _. IsTrue self.old.state.on_disk) }
     {
         let order = self.overlay.head().order;
@@ -249,21 +260,22 @@ impl LiveVolume {
         requires each { EachHolds self.old.state.volume a (b + 1 - a) place }
         requires fit { (k : ℕ) → k < b + 1 - a →
             IsTrue (fits place.kind (counted first step k)) }
-        requires none { IsTrue self.old.agreed → first_refusal self.old.state
+        requires none { HaveAgreed self.old.reads → first_refusal self.old.state
             (edits.Renumber a b (fields.Place place) first step) ≡ None }
-        ensures ok { OnOk result (IsTrue self.new.agreed → IsAfter self.old.state
+        ensures ok { OnOk result (HaveAgreed self.new.reads → IsAfter self.old.state
             (edits.Renumber a b (fields.Place place) first step) self.new.state) }
         ensures err { IfErr result (λ refusal. IsOfMachine self.old.state.on_disk refusal ×
             (self.new.state ≡ self.old.state)) }
         ensures same { IsReadAs self.old.state self.new.state }
-        ensures agreed { IsTrue self.new.agreed → IsTrue self.old.agreed }
+        ensures reads { Follow self.old.reads self.new.reads }
+        ensures reads_tell { IfErr result (IsRefusalOfReads self.old.reads self.new.reads) }
         ensures loaded { self.new.loaded ≡ self.old.loaded }
         ensures looks { RisesAtMost self.old.looks self.new.looks (b + 1 - a) }
         ensures told { IsTrue (tells_record self.old.state.fields (offset_of place)
             place.kind.size) → (self.new.looks ≡ self.old.looks)
             × IfErr result (λ refusal. refusal ≡ no_memory) }
         ensures count { count_of self.new.state.volume ≡ count_of self.old.state.volume }
-        ensures moved { IfOk result (λ moved. IsTrue self.new.agreed →
+        ensures moved { IfOk result (λ moved. HaveAgreed self.new.reads →
             moved ≡ any_moves self.old.state self.new.state a b) }
         ensures memory { Rises (IsErrOf result Refusal.OutOfMemory) room.old room.new }
     {

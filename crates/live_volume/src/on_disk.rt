@@ -1,5 +1,6 @@
 // A volume whose bytes stay on disk.
-ghost use Rattle.std.specs.Prelude.{◌≡◌, ◌≤◌, true, length, IfErr, IfOk, IsTrue, IsErrAnd};
+ghost use Rattle.std.specs.Prelude.{◌≡◌, ◌≤◌, true, length, IfErr, IfOk, IsErrAnd};
+ghost use Rattle.edit_overlay.specs.Reads.{HaveAgreed};
 ghost use Rattle.room.specs.Refusals.{Rises};
 ghost use Rattle.field_map.specs.Binding.{geometry_at_load};
 ghost use Rattle.frame_cut.specs.Cuts.{IsCut};
@@ -38,9 +39,10 @@ impl LiveVolume {
         ensures reading { IfOk result (λ b. b.state.reading ≡ reading) }
         ensures limits { IfOk result (λ b. b.state.limits ≡ limits) }
         ensures place { IfOk result (λ b. b.state.on_disk ≡ true) }
-        ensures agreed { IfOk result (λ b. IsTrue b.agreed) }
+        ensures reads { IfOk result (λ b. HaveAgreed b.reads) }
         ensures refused { IfErr result
-            (λ refused. IsPassFault size reading limits refused.read refused.fault) }
+            (λ refused. IsPassFault size reading limits refused.read refused.failures
+            refused.fault) }
         ensures memory { Rises (IsErrAnd result (λ e. e.fault ≡
             LoadFault.OutOfMemory)) room.old room.new }
     {

@@ -1,5 +1,6 @@
 // The reports that run with the volume, and the records beside its traces. No trace is looked at.
-ghost use Rattle.std.specs.Prelude.{◌≡◌, is_none, option_map, IsTrue};
+ghost use Rattle.std.specs.Prelude.{◌≡◌, is_none, option_map};
+ghost use Rattle.edit_overlay.specs.Reads.{HaveAgreed};
 ghost use Rattle.sample_codes.specs.Formats.{values};
 ghost use Rattle.frame_cut.specs.Traces.{trace_of};
 ghost use Rattle.trace_record.specs.Facts.{facts_of};
@@ -19,7 +20,7 @@ impl LiveVolume {
     /// The grid, which has counted the traces as they are now. Takes no memory and looks at none.
     /// Claimed, as of the next three, where each read of the loaded bytes agreed.
     pub fn grid(&self) -> &Grid
-        ensures { IsTrue self.now.agreed → IsGridOf self.now.state result.now }
+        ensures { HaveAgreed self.now.reads → IsGridOf self.now.state result.now }
     {
         self.reports.grid()
     }
@@ -27,7 +28,7 @@ impl LiveVolume {
     /// The ranges, which have counted the traces as they are now. Takes no memory and looks at
     /// none.
     pub fn ranges(&self) -> &Ranges
-        ensures { IsTrue self.now.agreed → AreRangesOf self.now.state result.now }
+        ensures { HaveAgreed self.now.reads → AreRangesOf self.now.state result.now }
     {
         self.reports.ranges()
     }
@@ -35,7 +36,7 @@ impl LiveVolume {
     /// The totals, which have counted the traces as they are now. Takes no memory and looks at
     /// none.
     pub fn totals(&self) -> &Totals
-        ensures { IsTrue self.now.agreed → AreTotalsOf self.now.state result.now }
+        ensures { HaveAgreed self.now.reads → AreTotalsOf self.now.state result.now }
     {
         self.reports.totals()
     }
@@ -43,14 +44,14 @@ impl LiveVolume {
     /// How often inline, crossline and offset stand together in the traces as they are now. Takes
     /// no memory and looks at none.
     pub fn triples(&self) -> &Faults
-        ensures { IsTrue self.now.agreed → AreTriplesOf self.now.state result.now }
+        ensures { HaveAgreed self.now.reads → AreTriplesOf self.now.state result.now }
     {
         self.reports.triples()
     }
 
     // The record of trace p, where there is one.
     pub(crate) fn record(&self, p: u32) -> Option<Record>
-        ensures { IsTrue self.now.agreed → option_map facts_of result ≡ option_map
+        ensures { HaveAgreed self.now.reads → option_map facts_of result ≡ option_map
             (record_of self.now.state.volume.head self.now.state.fields)
             (trace_of self.now.state.volume p) }
     {

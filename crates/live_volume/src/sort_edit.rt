@@ -1,13 +1,15 @@
 // Traces put in the order of numbers in their headers.
-ghost use Rattle.std.specs.Prelude.{◌≡◌, IsTrue, OnErr, IsErrOf};
+ghost use Rattle.std.specs.Prelude.{◌≡◌, OnErr, IsErrOf, IfErr};
 ghost use Rattle.room.specs.Refusals.{Rises};
 ghost use Rattle.frame_cut.specs.Traces.{count_of};
 ghost use Rattle.trace_store.specs.Swapped.{with_places_swapped, ArePlaces};
 ghost use Rattle.edit_overlay.specs.CountedVolume.{RisesAtMost};
+ghost use Rattle.edit_overlay.specs.Reads.{Follow, HaveAgreed};
 ghost use Rattle.bench_rules.specs.declared.edit.Edit.TheVariants as edits;
 ghost use Rattle.bench_rules.specs.Looks.{edit_looks};
 ghost use Rattle.bench_rules.specs.Steps.{Step};
 ghost use Rattle.live_volume.specs.Held.{IsReadAs};
+ghost use Rattle.bench_rules.specs.ReadFaults.{IsRefusalOfReads};
 
 use crate::live_volume::LiveVolume;
 use bench_rules::{Field, Refusal};
@@ -26,11 +28,12 @@ impl LiveVolume {
         fields: &[Field],
         falling: &[bool],
     ) -> Result<(), Refusal>
-        ensures step { IsTrue self.new.agreed → Step self.old.state
+        ensures step { HaveAgreed self.new.reads → Step self.old.state
             (edits.Sort a b fields.now falling.now) result self.new.state }
         ensures err { OnErr result (self.new.state ≡ self.old.state) }
         ensures same { IsReadAs self.old.state self.new.state }
-        ensures agreed { IsTrue self.new.agreed → IsTrue self.old.agreed }
+        ensures reads { Follow self.old.reads self.new.reads }
+        ensures reads_tell { IfErr result (IsRefusalOfReads self.old.reads self.new.reads) }
         ensures loaded { self.new.loaded ≡ self.old.loaded }
         ensures looks { RisesAtMost self.old.looks self.new.looks
             (edit_looks self.old.state (edits.Sort a b fields.now falling.now)) }
@@ -55,7 +58,7 @@ impl LiveVolume {
         ensures state { self.new.state ≡ record self.old.state {
           volume = with_places_swapped self.old.state.volume pairs.items;
         } }
-        ensures agreed { IsTrue self.new.agreed → IsTrue self.old.agreed }
+        ensures reads { Follow self.old.reads self.new.reads }
         ensures loaded { self.new.loaded ≡ self.old.loaded }
         ensures looks { self.new.looks ≡ self.old.looks }
     {

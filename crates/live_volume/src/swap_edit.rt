@@ -1,15 +1,16 @@
 // Two fields of chosen traces in the place of one another.
-ghost use Rattle.std.specs.Prelude.{◌≡◌, ◌⊎◌, ◌*◌, ◌<◌, length, true, None, Some, is_some, IsTrue, IfOk, IfErr, OnOk, OnErr, IsErrOf};
+ghost use Rattle.std.specs.Prelude.{◌≡◌, ◌⊎◌, ◌*◌, ◌<◌, length, true, None, Some, is_some, IfOk, IfErr, OnOk, OnErr, IsErrOf};
 ghost use Rattle.room.specs.Refusals.{Rises};
 ghost use Rattle.frame_cut.specs.Cuts.{IsCut};
 ghost use Rattle.frame_cut.specs.Traces.{count_of, trace_at};
 ghost use Rattle.edit_overlay.specs.CountedVolume.{RisesAtMost};
+ghost use Rattle.edit_overlay.specs.Reads.{Follow, HaveAgreed};
 ghost use Rattle.bench_rules.specs.declared.chosen_edit.ChosenEdit.TheVariants as chosen_edits;
 ghost use Rattle.bench_rules.specs.declared.refusal.Refusal.TheVariants.{OutOfMemory as no_memory};
 ghost use Rattle.bench_rules.specs.ChosenEdits.{bytes_after_each, refusal_of_edit};
 ghost use Rattle.bench_rules.specs.Computed.{first_at};
 ghost use Rattle.bench_rules.specs.Conditions.{AreRising};
-ghost use Rattle.bench_rules.specs.ReadFaults.{IsReadRefusal};
+ghost use Rattle.bench_rules.specs.ReadFaults.{IsReadRefusal, IsRefusalOfReads};
 ghost use Rattle.bench_rules.specs.SwappedFields.{changed_each, swap_refusal, swapped as swapped_in, two_places};
 ghost use Rattle.many_traces.specs.Spans.{span_size, AreSwapped, HaveSpan};
 ghost use Rattle.live_volume.specs.Chosen.{IsRefusedFor};
@@ -35,20 +36,21 @@ impl LiveVolume {
         requires rising { AreRising 1 (count_of self.old.state.volume) traces.now }
         requires some { 0 < length traces.now }
         requires fields { is_some (two_places self.old.state.fields first.now second.now) ≡ true }
-        ensures none { OnOk result (IsTrue self.new.agreed → refusal_of_edit
+        ensures none { OnOk result (HaveAgreed self.new.reads → refusal_of_edit
             self.old.state.volume self.old.state.fields
             (chosen_edits.Swap first.now second.now) traces.now ≡ None) }
-        ensures cut { OnOk result (IsTrue self.new.agreed → IsCut (bytes_after_each
+        ensures cut { OnOk result (HaveAgreed self.new.reads → IsCut (bytes_after_each
             self.old.state.volume self.old.state.fields
             (chosen_edits.Swap first.now second.now) traces.now)
             self.old.state.reading self.old.state.limits self.new.state.volume) }
-        ensures fields { OnOk result (IsTrue self.new.agreed →
+        ensures fields { OnOk result (HaveAgreed self.new.reads →
             self.new.state.fields ≡ self.old.state.fields) }
-        ensures err { IfErr result (λ refusal. IsTrue self.new.agreed → IsRefusedFor
+        ensures err { IfErr result (λ refusal. HaveAgreed self.new.reads → IsRefusedFor
             self.old.state (chosen_edits.Swap first.now second.now) traces.now refusal) }
         ensures unchanged { OnErr result (self.new.state ≡ self.old.state) }
         ensures same { IsReadAs self.old.state self.new.state }
-        ensures agreed { IsTrue self.new.agreed → IsTrue self.old.agreed }
+        ensures reads { Follow self.old.reads self.new.reads }
+        ensures reads_tell { IfErr result (IsRefusalOfReads self.old.reads self.new.reads) }
         ensures loaded { self.new.loaded ≡ self.old.loaded }
         ensures looks { RisesAtMost self.old.looks self.new.looks (2 * length traces.now) }
         ensures memory { Rises (IsErrOf result Refusal.OutOfMemory) room.old room.new }
@@ -77,20 +79,21 @@ impl LiveVolume {
         second: Place,
     ) -> Result<Vec<u8>, Refusal>
         requires rising { AreRising 1 (count_of self.old.state.volume) traces.now }
-        ensures none { OnOk result (IsTrue self.new.agreed → first_at
+        ensures none { OnOk result (HaveAgreed self.new.reads → first_at
             (λ p. swap_refusal self.old.state.volume.head (first, second)
             (trace_at self.old.state.volume p)) traces.now ≡ None) }
-        ensures parts { IfOk result (λ bytes. IsTrue self.new.agreed →
+        ensures parts { IfOk result (λ bytes. HaveAgreed self.new.reads →
             AreSwapped self.old.state.volume (first, second) traces.now bytes.items) }
         ensures count { IfOk result (λ bytes.
             length bytes.items ≡ length traces.now * span_size (first, second)) }
         ensures inside { OnOk result
             (HaveSpan self.old.state.volume (first, second) traces.now) }
         ensures err { IfErr result (λ refusal. (refusal ≡ no_memory) ⊎
-            IsReadRefusal self.old.state.on_disk refusal ⊎ (IsTrue self.new.agreed → first_at
+            IsReadRefusal self.old.state.on_disk refusal ⊎ (HaveAgreed self.new.reads → first_at
             (λ p. swap_refusal self.old.state.volume.head (first, second)
             (trace_at self.old.state.volume p)) traces.now ≡ Some refusal)) }
         ensures seen { OnlyLooks self.old self.new (length traces.now) }
+        ensures reads_tell { IfErr result (IsRefusalOfReads self.old.reads self.new.reads) }
         ensures memory { Rises (IsErrOf result Refusal.OutOfMemory) room.old room.new }
     {
         swapped_bytes(room, &mut self.overlay, traces, first, second)
@@ -109,20 +112,21 @@ impl LiveVolume {
     ) -> Result<(), Refusal>
         requires rising { AreRising 1 (count_of self.old.state.volume) traces.now }
         requires some { 0 < length traces.now }
-        requires none { IsTrue self.old.agreed → first_at
+        requires none { HaveAgreed self.old.reads → first_at
             (λ p. swap_refusal self.old.state.volume.head (first, second)
             (trace_at self.old.state.volume p)) traces.now ≡ None }
-        requires parts { IsTrue self.old.agreed →
+        requires parts { HaveAgreed self.old.reads →
             AreSwapped self.old.state.volume (first, second) traces.now bytes.now }
         requires count { length bytes.now ≡ length traces.now * span_size (first, second) }
         requires inside { HaveSpan self.old.state.volume (first, second) traces.now }
-        ensures ok { OnOk result (IsTrue self.new.agreed → self.new.state ≡ with_volume
+        ensures ok { OnOk result (HaveAgreed self.new.reads → self.new.state ≡ with_volume
             self.old.state (changed_each (swapped_in self.old.state.volume.head (first, second))
             self.old.state.volume traces.now)) }
         ensures err { IfErr result (λ refusal. IsOfMachine self.old.state.on_disk refusal ×
             (self.new.state ≡ self.old.state)) }
         ensures same { IsReadAs self.old.state self.new.state }
-        ensures agreed { IsTrue self.new.agreed → IsTrue self.old.agreed }
+        ensures reads { Follow self.old.reads self.new.reads }
+        ensures reads_tell { IfErr result (IsRefusalOfReads self.old.reads self.new.reads) }
         ensures loaded { self.new.loaded ≡ self.old.loaded }
         ensures looks { RisesAtMost self.old.looks self.new.looks (length traces.now) }
         ensures memory { Rises (IsErrOf result Refusal.OutOfMemory) room.old room.new }

@@ -1,11 +1,12 @@
 // Edits of samples and of whole traces.
-ghost use Rattle.std.specs.Prelude.{◌≡◌, length, None, IsTrue, IfOk, OnOk, IfErr, OnErr, IsErrOf, ◌≢◌};
+ghost use Rattle.std.specs.Prelude.{◌≡◌, length, None, IsTrue, IfOk, OnOk, IfErr, OnErr, IsErrOf, ◌≢◌, IfSome};
 ghost use Rattle.room.specs.Refusals.{Rises};
 ghost use Rattle.frame_cut.specs.Cuts.{IsTrace};
 ghost use Rattle.frame_cut.specs.Traces.{is_trace, trace_at};
 ghost use Rattle.bench_rules.specs.declared.edit.Edit.TheVariants as edits;
 ghost use Rattle.bench_rules.specs.declared.refusal.Refusal.TheVariants.{OutOfMemory as no_memory};
 ghost use Rattle.edit_overlay.specs.CountedVolume.{RisesAtMost};
+ghost use Rattle.edit_overlay.specs.Reads.{Follow, HaveAgreed};
 ghost use Rattle.bench_rules.specs.Looks.{trace_looks};
 ghost use Rattle.bench_rules.specs.Refused.{first_refusal, no_trace};
 ghost use Rattle.bench_rules.specs.Steps.{IsAfter, Step};
@@ -13,6 +14,7 @@ ghost use Rattle.live_volume.specs.Held.{sample_start, with_volume, IsReadAs, On
 ghost use Rattle.frame_cut.specs.Parts.{without};
 ghost use Rattle.live_volume.specs.Refusals.{IsOfMachine};
 ghost use Rattle.volume_answers.specs.Rooms.{HasSampleRoom};
+ghost use Rattle.bench_rules.specs.ReadFaults.{IsRefusalOfNoRead, IsRefusalOfReads};
 
 use crate::live_volume::LiveVolume;
 use bench_rules::{Refusal, blank_length, joined, samples_bytes, zeros};
@@ -24,7 +26,8 @@ use volume_records::record_of_bytes;
 impl LiveVolume {
     // The first refusal of a trace's number: E01.
     pub(crate) fn no_trace(&self, p: u32) -> Option<Refusal>
-        ensures { result ≡ no_trace self.now.state.volume p }
+        ensures refusal { result ≡ no_trace self.now.state.volume p }
+        ensures rule { IfSome result IsRefusalOfNoRead }
     {
         if self.has_trace(p) {
             None
@@ -42,11 +45,12 @@ impl LiveVolume {
         k: u32,
         values: &[i128],
     ) -> Result<(), Refusal>
-        ensures step { IsTrue self.new.agreed →
+        ensures step { HaveAgreed self.new.reads →
             Step self.old.state (edits.Patch p k values.now) result self.new.state }
         ensures err { OnErr result (self.new.state ≡ self.old.state) }
         ensures same { IsReadAs self.old.state self.new.state }
-        ensures agreed { IsTrue self.new.agreed → IsTrue self.old.agreed }
+        ensures reads { Follow self.old.reads self.new.reads }
+        ensures reads_tell { IfErr result (IsRefusalOfReads self.old.reads self.new.reads) }
         ensures loaded { self.new.loaded ≡ self.old.loaded }
         ensures looks { RisesAtMost self.old.looks self.new.looks
             (trace_looks self.old.state.volume p 2) }
@@ -66,15 +70,16 @@ impl LiveVolume {
         values: &[i128],
     ) -> Result<(), Refusal>
         requires room { HasSampleRoom self.old.state.volume p at values.now }
-        requires none { IsTrue self.old.agreed →
+        requires none { HaveAgreed self.old.reads →
             first_refusal self.old.state (edits.Patch p k values.now) ≡ None }
-        requires place { IsTrue self.old.agreed → at ≡ sample_start self.old.state.volume p k }
-        ensures ok { OnOk result (IsTrue self.new.agreed →
+        requires place { HaveAgreed self.old.reads → at ≡ sample_start self.old.state.volume p k }
+        ensures ok { OnOk result (HaveAgreed self.new.reads →
             IsAfter self.old.state (edits.Patch p k values.now) self.new.state) }
         ensures err { IfErr result (λ refusal. IsOfMachine self.old.state.on_disk refusal ×
             (self.new.state ≡ self.old.state)) }
         ensures same { IsReadAs self.old.state self.new.state }
-        ensures agreed { IsTrue self.new.agreed → IsTrue self.old.agreed }
+        ensures reads { Follow self.old.reads self.new.reads }
+        ensures reads_tell { IfErr result (IsRefusalOfReads self.old.reads self.new.reads) }
         ensures loaded { self.new.loaded ≡ self.old.loaded }
         ensures looks { RisesAtMost self.old.looks self.new.looks 1 }
         ensures memory { Rises (IsErrOf result Refusal.OutOfMemory) room.old room.new }
@@ -89,11 +94,12 @@ impl LiveVolume {
 
     // A blank trace in front of trace p, or behind the last, or the first refusal: E01, E09, E10.
     pub(crate) fn blank(&mut self, room: &mut Room, p: u32) -> Result<(), Refusal>
-        ensures step { IsTrue self.new.agreed →
+        ensures step { HaveAgreed self.new.reads →
             Step self.old.state (edits.Blank p) result self.new.state }
         ensures err { OnErr result (self.new.state ≡ self.old.state) }
         ensures same { IsReadAs self.old.state self.new.state }
-        ensures agreed { IsTrue self.new.agreed → IsTrue self.old.agreed }
+        ensures reads { Follow self.old.reads self.new.reads }
+        ensures reads_tell { IfErr result (IsRefusalOfReads self.old.reads self.new.reads) }
         ensures loaded { self.new.loaded ≡ self.old.loaded }
         ensures looks { self.new.looks ≡ self.old.looks }
         ensures memory { Rises (IsErrOf result Refusal.OutOfMemory) room.old room.new }
@@ -107,12 +113,13 @@ impl LiveVolume {
     // A blank trace in front of trace p, or behind the last, where nothing but memory refuses it.
     fn insert_blank(&mut self, room: &mut Room, p: u32) -> Result<(), Refusal>
         requires { first_refusal self.old.state (edits.Blank p) ≡ None }
-        ensures ok { OnOk result (IsTrue self.new.agreed →
+        ensures ok { OnOk result (HaveAgreed self.new.reads →
             IsAfter self.old.state (edits.Blank p) self.new.state) }
         ensures err { IfErr result (λ refusal. (refusal ≡ no_memory) ×
             (self.new.state ≡ self.old.state)) }
         ensures same { IsReadAs self.old.state self.new.state }
-        ensures agreed { IsTrue self.new.agreed → IsTrue self.old.agreed }
+        ensures reads { Follow self.old.reads self.new.reads }
+        ensures reads_tell { IfErr result (IsRefusalOfReads self.old.reads self.new.reads) }
         ensures loaded { self.new.loaded ≡ self.old.loaded }
         ensures looks { self.new.looks ≡ self.old.looks }
         ensures memory { Rises (IsErrOf result Refusal.OutOfMemory) room.old room.new }
@@ -126,11 +133,12 @@ impl LiveVolume {
     // A copy of trace q in front of trace p, or behind the last, or the first refusal: E01, E09,
     // E10.
     pub(crate) fn copy(&mut self, room: &mut Room, q: u32, p: u32) -> Result<(), Refusal>
-        ensures step { IsTrue self.new.agreed →
+        ensures step { HaveAgreed self.new.reads →
             Step self.old.state (edits.Copy q p) result self.new.state }
         ensures err { OnErr result (self.new.state ≡ self.old.state) }
         ensures same { IsReadAs self.old.state self.new.state }
-        ensures agreed { IsTrue self.new.agreed → IsTrue self.old.agreed }
+        ensures reads { Follow self.old.reads self.new.reads }
+        ensures reads_tell { IfErr result (IsRefusalOfReads self.old.reads self.new.reads) }
         ensures loaded { self.new.loaded ≡ self.old.loaded }
         ensures looks { RisesAtMost self.old.looks self.new.looks
             (trace_looks self.old.state.volume q 2) }
@@ -145,13 +153,14 @@ impl LiveVolume {
     // The bytes of trace q, in one vector.
     fn trace_bytes(&mut self, room: &mut Room, q: u32) -> Result<Vec<u8>, Refusal>
         requires { IsTrue (is_trace self.old.state.volume q) }
-        ensures ok { IfOk result (λ bytes. IsTrue self.new.agreed →
+        ensures ok { IfOk result (λ bytes. HaveAgreed self.new.reads →
             bytes.items ≡ trace_at self.old.state.volume q) }
         ensures whole { IfOk result (λ bytes. IsTrace self.old.state.volume.head bytes.items) }
         ensures long { IfOk result (λ bytes.
             length bytes.items ≡ length (trace_at self.old.state.volume q)) }
         ensures err { IfErr result (λ refusal. IsOfMachine self.old.state.on_disk refusal) }
         ensures seen { OnlyLooks self.old self.new 1 }
+        ensures reads_tell { IfErr result (IsRefusalOfReads self.old.reads self.new.reads) }
         ensures memory { Rises (IsErrOf result Refusal.OutOfMemory) room.old room.new }
     {
         let Some(trace) = self.overlay.look(q)? else {
@@ -164,12 +173,13 @@ impl LiveVolume {
     // refuses it.
     fn insert_copy(&mut self, room: &mut Room, q: u32, p: u32) -> Result<(), Refusal>
         requires { first_refusal self.old.state (edits.Copy q p) ≡ None }
-        ensures ok { OnOk result (IsTrue self.new.agreed →
+        ensures ok { OnOk result (HaveAgreed self.new.reads →
             IsAfter self.old.state (edits.Copy q p) self.new.state) }
         ensures err { IfErr result (λ refusal. IsOfMachine self.old.state.on_disk refusal ×
             (self.new.state ≡ self.old.state)) }
         ensures same { IsReadAs self.old.state self.new.state }
-        ensures agreed { IsTrue self.new.agreed → IsTrue self.old.agreed }
+        ensures reads { Follow self.old.reads self.new.reads }
+        ensures reads_tell { IfErr result (IsRefusalOfReads self.old.reads self.new.reads) }
         ensures loaded { self.new.loaded ≡ self.old.loaded }
         ensures looks { RisesAtMost self.old.looks self.new.looks 1 }
         ensures memory { Rises (IsErrOf result Refusal.OutOfMemory) room.old room.new }
@@ -181,11 +191,12 @@ impl LiveVolume {
 
     // Trace p out, or the refusal: E01.
     pub(crate) fn delete(&mut self, p: u32) -> Result<(), Refusal>
-        ensures step { IsTrue self.new.agreed →
+        ensures step { HaveAgreed self.new.reads →
             Step self.old.state (edits.Delete p) result self.new.state }
         ensures err { OnErr result (self.new.state ≡ self.old.state) }
         ensures same { IsReadAs self.old.state self.new.state }
-        ensures agreed { IsTrue self.new.agreed → IsTrue self.old.agreed }
+        ensures reads { Follow self.old.reads self.new.reads }
+        ensures reads_tell { IfErr result (IsRefusalOfReads self.old.reads self.new.reads) }
         ensures loaded { self.new.loaded ≡ self.old.loaded }
         ensures looks { self.new.looks ≡ self.old.looks }
         ensures other { IfErr result (λ refusal. refusal ≢ Refusal.OutOfMemory) }
@@ -204,10 +215,10 @@ impl LiveVolume {
         requires { first_refusal self.old.state (edits.Delete p) ≡ None }
         ensures state { self.new.state ≡ with_volume self.old.state
             (without self.old.state.volume p) }
-        ensures after { IsTrue self.new.agreed →
+        ensures after { HaveAgreed self.new.reads →
             IsAfter self.old.state (edits.Delete p) self.new.state }
         ensures same { IsReadAs self.old.state self.new.state }
-        ensures agreed { IsTrue self.new.agreed → IsTrue self.old.agreed }
+        ensures reads { Follow self.old.reads self.new.reads }
         ensures loaded { self.new.loaded ≡ self.old.loaded }
         ensures looks { self.new.looks ≡ self.old.looks }
     {
@@ -218,11 +229,12 @@ impl LiveVolume {
 
     // Trace a as trace b, or the first refusal: E01.
     pub(crate) fn move_trace(&mut self, room: &mut Room, a: u32, b: u32) -> Result<(), Refusal>
-        ensures step { IsTrue self.new.agreed →
+        ensures step { HaveAgreed self.new.reads →
             Step self.old.state (edits.Move a b) result self.new.state }
         ensures err { OnErr result (self.new.state ≡ self.old.state) }
         ensures same { IsReadAs self.old.state self.new.state }
-        ensures agreed { IsTrue self.new.agreed → IsTrue self.old.agreed }
+        ensures reads { Follow self.old.reads self.new.reads }
+        ensures reads_tell { IfErr result (IsRefusalOfReads self.old.reads self.new.reads) }
         ensures loaded { self.new.loaded ≡ self.old.loaded }
         ensures looks { self.new.looks ≡ self.old.looks }
         ensures memory { Rises (IsErrOf result Refusal.OutOfMemory) room.old room.new }
@@ -236,12 +248,13 @@ impl LiveVolume {
     // Trace a as trace b, where nothing but memory refuses it.
     fn put_elsewhere(&mut self, room: &mut Room, a: u32, b: u32) -> Result<(), Refusal>
         requires { first_refusal self.old.state (edits.Move a b) ≡ None }
-        ensures ok { OnOk result (IsTrue self.new.agreed →
+        ensures ok { OnOk result (HaveAgreed self.new.reads →
             IsAfter self.old.state (edits.Move a b) self.new.state) }
         ensures err { IfErr result (λ refusal. (refusal ≡ no_memory) ×
             (self.new.state ≡ self.old.state)) }
         ensures same { IsReadAs self.old.state self.new.state }
-        ensures agreed { IsTrue self.new.agreed → IsTrue self.old.agreed }
+        ensures reads { Follow self.old.reads self.new.reads }
+        ensures reads_tell { IfErr result (IsRefusalOfReads self.old.reads self.new.reads) }
         ensures loaded { self.new.loaded ≡ self.old.loaded }
         ensures looks { self.new.looks ≡ self.old.looks }
         ensures memory { Rises (IsErrOf result Refusal.OutOfMemory) room.old room.new }

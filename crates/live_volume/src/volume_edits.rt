@@ -12,12 +12,14 @@ ghost use Rattle.trace_record.specs.Facts.{facts_of};
 ghost use Rattle.trace_record.specs.OfTrace.{record_of};
 ghost use Rattle.trace_record.specs.Told.{tells_record};
 ghost use Rattle.edit_overlay.specs.CountedVolume.{RisesAtMost};
+ghost use Rattle.edit_overlay.specs.Reads.{Follow, HaveAgreed};
 ghost use Rattle.bench_rules.specs.declared.refusal.Refusal.TheVariants.{OutOfMemory as no_memory};
 ghost use Rattle.volume_records.specs.Laid.{HasSamplesOf};
 ghost use Rattle.volume_records.specs.OfVolume.{AreHeaderParts};
 ghost use Rattle.live_volume.specs.Held.{any_moves, with_volume, IsCutAs};
 ghost use Rattle.live_volume.specs.Places.{MayReplace};
 ghost use Rattle.live_volume.specs.Refusals.{refusal_of_records as refusal_of, IsOfMachine};
+ghost use Rattle.bench_rules.specs.ReadFaults.{IsRefusalOfReads};
 
 use crate::live_volume::LiveVolume;
 use bench_rules::Refusal;
@@ -34,7 +36,7 @@ impl LiveVolume {
     pub(crate) fn held(&self, p: u32) -> Record
         requires first { 1 ≤ p }
         requires last { p ≤ count_of self.now.state.volume }
-        ensures facts { IsTrue self.now.agreed → facts_of result ≡ record_of
+        ensures facts { HaveAgreed self.now.reads → facts_of result ≡ record_of
             self.now.state.volume.head self.now.state.fields
             (trace_at self.now.state.volume p) }
         ensures few { result.number ≤ length (trace_at self.now.state.volume p) }
@@ -58,15 +60,15 @@ impl LiveVolume {
         requires first { 1 ≤ p }
         requires last { p ≤ count_of self.old.state.volume }
         requires inside { at + length bytes.now ≤ length (trace_at self.old.state.volume p) }
-        requires whole { IsTrue self.old.agreed → IsTrace self.old.state.volume.head
+        requires whole { HaveAgreed self.old.reads → IsTrace self.old.state.volume.head
             (splice (trace_at self.old.state.volume p) at (length bytes.now) bytes.now) }
-        requires cut { IsTrue self.old.agreed → IsCutAs self.old.state
+        requires cut { HaveAgreed self.old.reads → IsCutAs self.old.state
             (with_trace self.old.state.volume p
             (splice (trace_at self.old.state.volume p) at (length bytes.now) bytes.now)) }
-        requires known { IsTrue self.old.agreed → IfSome known (λ r. facts_of r ≡ record_of
+        requires known { HaveAgreed self.old.reads → IfSome known (λ r. facts_of r ≡ record_of
             self.old.state.volume.head self.old.state.fields
             (trace_at self.old.state.volume p)) }
-        requires samples { IsTrue self.old.agreed → IfSome known (HasSamplesOf
+        requires samples { HaveAgreed self.old.reads → IfSome known (HasSamplesOf
             self.old.state.volume.head self.old.state.fields
             (splice (trace_at self.old.state.volume p) at (length bytes.now) bytes.now)) }
         requires few { IfSome known (λ r. r.number ≤
@@ -76,7 +78,8 @@ impl LiveVolume {
             (splice (trace_at self.old.state.volume p) at (length bytes.now) bytes.now))) }
         ensures err { IfErr result (λ refusal. IsOfMachine self.old.state.on_disk refusal ×
             (self.new.state ≡ self.old.state)) }
-        ensures agreed { IsTrue self.new.agreed → IsTrue self.old.agreed }
+        ensures reads { Follow self.old.reads self.new.reads }
+        ensures reads_tell { IfErr result (IsRefusalOfReads self.old.reads self.new.reads) }
         ensures loaded { self.new.loaded ≡ self.old.loaded }
         ensures looks { RisesAtMost self.old.looks self.new.looks 1 }
         ensures told { IsSome known →
@@ -115,15 +118,16 @@ impl LiveVolume {
         requires small { length (bytes_of self.old.state.volume) + length bytes.items
             ≤ self.old.state.limits.bytes }
         requires number { trace.now.number ≤ length bytes.items }
-        requires cut { IsTrue self.old.agreed → IsCutAs self.old.state
+        requires cut { HaveAgreed self.old.reads → IsCutAs self.old.state
             (with_inserted self.old.state.volume p bytes.items) }
-        requires record { IsTrue self.old.agreed → facts_of trace.now ≡ record_of
+        requires record { HaveAgreed self.old.reads → facts_of trace.now ≡ record_of
             self.old.state.volume.head self.old.state.fields bytes.items }
         ensures ok { OnOk result (self.new.state ≡ with_volume self.old.state
             (with_inserted self.old.state.volume p bytes.items)) }
         ensures err { IfErr result (λ refusal. (refusal ≡ no_memory) ×
             (self.new.state ≡ self.old.state)) }
-        ensures agreed { IsTrue self.new.agreed → IsTrue self.old.agreed }
+        ensures reads { Follow self.old.reads self.new.reads }
+        ensures reads_tell { IfErr result (IsRefusalOfReads self.old.reads self.new.reads) }
         ensures loaded { self.new.loaded ≡ self.old.loaded }
         ensures looks { self.new.looks ≡ self.old.looks }
         ensures memory { Rises (IsErrOf result Refusal.OutOfMemory) room.old room.new }
@@ -159,15 +163,16 @@ impl LiveVolume {
     ) -> Result<(), Refusal>
         requires fits { MayReplace self.old.state p bytes.items }
         requires number { trace.now.number ≤ length bytes.items }
-        requires cut { IsTrue self.old.agreed → IsCutAs self.old.state
+        requires cut { HaveAgreed self.old.reads → IsCutAs self.old.state
             (with_trace self.old.state.volume p bytes.items) }
-        requires record { IsTrue self.old.agreed → facts_of trace.now ≡ record_of
+        requires record { HaveAgreed self.old.reads → facts_of trace.now ≡ record_of
             self.old.state.volume.head self.old.state.fields bytes.items }
         ensures ok { OnOk result (self.new.state ≡ with_volume self.old.state
             (with_trace self.old.state.volume p bytes.items)) }
         ensures err { IfErr result (λ refusal. (refusal ≡ no_memory) ×
             (self.new.state ≡ self.old.state)) }
-        ensures agreed { IsTrue self.new.agreed → IsTrue self.old.agreed }
+        ensures reads { Follow self.old.reads self.new.reads }
+        ensures reads_tell { IfErr result (IsRefusalOfReads self.old.reads self.new.reads) }
         ensures loaded { self.new.loaded ≡ self.old.loaded }
         ensures looks { self.new.looks ≡ self.old.looks }
         ensures memory { Rises (IsErrOf result Refusal.OutOfMemory) room.old room.new }
@@ -205,19 +210,20 @@ impl LiveVolume {
         requires last { a - 1 + count ≤ count_of self.old.state.volume }
         requires inside { (k : ℕ) → k < length bytes.now / size → at + size
             ≤ length (slice_index_or self.old.state.volume.traces (a - 1 + k) []) }
-        requires parts { IsTrue self.old.agreed →
+        requires parts { HaveAgreed self.old.reads →
             AreHeaderParts self.old.state.volume a at size bytes.now }
-        requires cut { IsTrue self.old.agreed → IsCutAs self.old.state
+        requires cut { HaveAgreed self.old.reads → IsCutAs self.old.state
             (with_each self.old.state.volume a at size bytes.now) }
         ensures ok { OnOk result (self.new.state ≡ with_volume self.old.state
             (with_each self.old.state.volume a at size bytes.now)) }
         ensures err { IfErr result (λ refusal. IsOfMachine self.old.state.on_disk refusal ×
             (self.new.state ≡ self.old.state)) }
-        ensures moved { IfOk result (λ moved. IsTrue self.new.agreed →
+        ensures moved { IfOk result (λ moved. HaveAgreed self.new.reads →
             moved ≡ any_moves self.old.state
             (with_volume self.old.state (with_each self.old.state.volume a at size bytes.now))
             a (a - 1 + count)) }
-        ensures agreed { IsTrue self.new.agreed → IsTrue self.old.agreed }
+        ensures reads { Follow self.old.reads self.new.reads }
+        ensures reads_tell { IfErr result (IsRefusalOfReads self.old.reads self.new.reads) }
         ensures loaded { self.new.loaded ≡ self.old.loaded }
         ensures looks { RisesAtMost self.old.looks self.new.looks count }
         ensures told { IsTrue (tells_record self.old.state.fields at size) →

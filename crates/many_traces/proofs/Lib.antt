@@ -8,3 +8,5 @@ mod NearLemmas
 mod BlockLemmas
 pub mod ExchangeLemmas
 pub mod SortedTraceLemmas
+mod ShownLemmas
+mod NoReadLemmas

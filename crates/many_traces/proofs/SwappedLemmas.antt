@@ -1,6 +1,6 @@
 -- Two numbers of a trace in the place of one another: the bytes that lie where the two places lie together, and what is refused.
-use Rattle.std.proofs.Common.{◌≡◌, ℕ, ℤ, suc, ◌+◌, ◌*◌, ◌-◌, ◌<◌, ◌≤◌, ◌^◌, Bool, true, false, ◌&&◌, leb, cond, List, [], ◌∷◌, ◌++◌, length, take, drop, get_or, Option, Some, None, inl, inr, refl, sym, ap, ap₂, subst, ◌∙◌, arith, append_assoc, append-nil}
-use Rattle.std.specs.Prelude.{not, nat_eq, is_some, min, max, if◌then◌else◌}
+use Rattle.std.proofs.Common.{◌≡◌, ℕ, ℤ, ◌+◌, ◌*◌, ◌-◌, ◌<◌, ◌≤◌, ◌^◌, Bool, true, false, ◌&&◌, leb, cond, List, [], ◌++◌, length, take, drop, get_or, Option, Some, None, inl, inr, refl, sym, ap, ap₂, ◌∙◌, arith, append_assoc, append-nil}
+use Rattle.std.specs.Prelude.{not, nat_eq, min, max, if◌then◌else◌}
 use Rattle.std.specs.Option.{option_eq, option_or}
 use Rattle.std.proofs.lemmas.List.{length-append, length-take-le, length-drop, take-append-drop, take-append-le, drop-append-le, drop-drop, take_at, drop_at}
 use Rattle.std.proofs.Math.Nat.{mul-le-mul_right}
@@ -12,7 +12,7 @@ use Rattle.field_map.specs.declared.place.Place.{Place}
 use Rattle.field_map.specs.Places.{offset_of}
 use Rattle.frame_cut.specs.declared.file_head.Head.{Head}
 use Rattle.frame_cut.specs.Cuts.{IsTrace}
-use Rattle.frame_cut.specs.Frames.{extensions_of, trace_length}
+use Rattle.frame_cut.specs.Frames.{trace_length}
 use Rattle.frame_cut.specs.Splice.{splice}
 use Rattle.frame_cut.specs.Traces.{count_of, is_trace}
 use Rattle.frame_cut.specs.Volume.{Volume}
@@ -21,10 +21,10 @@ use Rattle.trace_store.specs.Each.{part_of}
 use Rattle.trace_view.specs.Values.{has_place, is_in_header, samples_at, value_at, value_of}
 use Rattle.bench_rules.specs.declared.refusal.Refusal.{Refusal}
 use Rattle.bench_rules.specs.declared.refusal.Refusal.TheVariants.{DoesNotFit, Frame, NoPlace}
-use Rattle.bench_rules.specs.SetRefusals.{changes_length, set_refusal, with_value}
+use Rattle.bench_rules.specs.SetRefusals.{changes_length, set_refusal}
 use Rattle.bench_rules.specs.SwappedFields.{half_swapped, swap_refusal, swapped}
 use Rattle.bench_rules.proofs.PlaceLemmas.{place_inside, sized, stands}
-use Rattle.bench_rules.proofs.SetLemmas.{by_changed, has_value}
+use Rattle.bench_rules.proofs.SetLemmas.{by_changed}
 use Rattle.bench_rules.specs.Conditions.{AreRising}
 use Rattle.bench_rules.proofs.SwapLemmas.{IsSet, is_set, rising_at}
 use Rattle.many_traces.specs.Spans.{span_size, span_start, HasSpan}

@@ -1,5 +1,5 @@
 -- Where two places of a trace lie together, and the bytes that many traces get there where the numbers of the two places change places.
-use Rattle.std.specs.Prelude.{◌≡◌, ℕ, ◌+◌, ◌-◌, ◌*◌, ◌<◌, ◌≤◌, min, max, List, length, get_or}
+use Rattle.std.specs.Prelude.{◌≡◌, ℕ, ◌+◌, ◌-◌, ◌<◌, ◌≤◌, min, max, List, length, get_or}
 use Rattle.field_map.specs.declared.place.Place.{Place}
 use Rattle.field_map.specs.Places.{offset_of}
 use Rattle.frame_cut.specs.Splice.{splice}

@@ -1,7 +1,9 @@
 // The answer to a query for some fields of a range of traces.
-ghost use Rattle.std.specs.Prelude.{◌≡◌, IsTrue, IsErrOf};
+ghost use Rattle.std.specs.Prelude.{◌≡◌, IsErrOf, IfErr};
+ghost use Rattle.bench_rules.specs.ReadFaults.{IsFaultOfReads};
 ghost use Rattle.room.specs.Refusals.{Rises};
 ghost use Rattle.edit_overlay.specs.CountedVolume.{IsSeen};
+ghost use Rattle.edit_overlay.specs.Reads.{HaveAgreed};
 ghost use Rattle.bench_rules.specs.declared.query.Query.TheVariants as queries;
 ghost use Rattle.bench_rules.specs.Answer.{IsReply};
 ghost use Rattle.bench_rules.specs.Looks.{looks_at, range_looks};
@@ -28,8 +30,9 @@ pub fn table_answer(
     fields: &[Field],
 ) -> Result<Answer, AskFault>
     ensures reply { (s : State) → s.volume ≡ overlay.old.volume → s.fields ≡ map.now.pairs →
-        s.on_disk ≡ overlay.old.loaded.on_disk → IsTrue overlay.new.agreed →
+        s.on_disk ≡ overlay.old.loaded.on_disk → HaveAgreed overlay.new.reads →
         IsReply s (queries.Table a b fields.now) result }
+    ensures reads_tell { IfErr result (IsFaultOfReads overlay.old.reads overlay.new.reads) }
     ensures seen { IsSeen overlay.old overlay.new
         (looks_at (each_of (place_of_field map.now.pairs) fields.now)
         (range_looks overlay.old.volume a b)) }

@@ -1,15 +1,16 @@
 // A number computed for each of many traces.
-ghost use Rattle.std.specs.Prelude.{◌≡◌, ◌+◌, ◌-◌, ◌*◌, ◌<◌, ◌≤◌, ℕ, [], ◌++◌, ◌⊎◌, None, Some, Ok, IsTrue, IfOk, IfErr, OnOk, List, length, IsErrOf, ◌≢◌};
+ghost use Rattle.std.specs.Prelude.{◌≡◌, ◌+◌, ◌-◌, ◌*◌, ◌<◌, ◌≤◌, ℕ, [], ◌++◌, ◌⊎◌, None, Some, Ok, IsTrue, IfOk, IfErr, OnOk, List, length, IsErrOf, ◌≢◌, IfSome};
 ghost use Rattle.std.specs.Vec.{vec_len, vec_capacity};
 ghost use Rattle.room.specs.Refusals.{Rises};
 ghost use Rattle.num_order.specs.Number.{IsSize, InRange, bytes as bytes_of_number};
 ghost use Rattle.frame_cut.specs.Traces.{count_of, is_trace, trace_at};
 ghost use Rattle.edit_overlay.specs.CountedVolume.{IsSeen};
+ghost use Rattle.edit_overlay.specs.Reads.{HaveAgreed, IsFaultOfLook};
 ghost use Rattle.bench_rules.specs.declared.operator.Operator.{Operator};
 ghost use Rattle.bench_rules.specs.declared.term.Term.{Term};
 ghost use Rattle.bench_rules.specs.Computed.{compute_refusal, compute_refusal_in, computed_in, steps_of};
 ghost use Rattle.bench_rules.specs.Looks.{looks_at};
-ghost use Rattle.bench_rules.specs.ReadFaults.{IsReadRefusal};
+ghost use Rattle.bench_rules.specs.ReadFaults.{IsReadRefusal, IsRefusalOfNoRead, IsRefusalOfReads};
 ghost use Rattle.many_traces.specs.Fields.{HoldsPlace};
 ghost use Rattle.many_traces.specs.Formulas.{formula_at, number_bytes, IsRefusalFor};
 
@@ -40,9 +41,9 @@ pub fn computed_bytes(
     requires first { 1 ≤ a }
     requires range { a ≤ b }
     requires last { b ≤ count_of overlay.old.volume }
-    ensures none { OnOk result (IsTrue overlay.new.agreed → compute_refusal_in overlay.old.volume
+    ensures none { OnOk result (HaveAgreed overlay.new.reads → compute_refusal_in overlay.old.volume
         (formula_at map.now.pairs place source.now steps.now) a b ≡ None) }
-    ensures bytes { IfOk result (λ bytes. IsTrue overlay.new.agreed → bytes.items ≡ number_bytes
+    ensures bytes { IfOk result (λ bytes. HaveAgreed overlay.new.reads → bytes.items ≡ number_bytes
         overlay.old.volume (formula_at map.now.pairs place source.now steps.now) a b) }
     ensures count { IfOk result (λ bytes. length bytes.items ≡ place.kind.size * (b + 1 - a)) }
     ensures each { OnOk result ((k : ℕ) → k < b + 1 - a →
@@ -51,8 +52,9 @@ pub fn computed_bytes(
         (formula_at map.now.pairs place source.now steps.now) (b + 1 - a)) }
     ensures err { IfErr result (λ refusal. (IsReadRefusal overlay.old.loaded.on_disk refusal
         × (0 < looks_at (formula_at map.now.pairs place source.now steps.now) (b + 1 - a))) ⊎
-        (IsTrue overlay.new.agreed → IsRefusalFor refusal (compute_refusal_in overlay.old.volume
+        (HaveAgreed overlay.new.reads → IsRefusalFor refusal (compute_refusal_in overlay.old.volume
         (formula_at map.now.pairs place source.now steps.now) a b))) }
+    ensures reads_tell { IfErr result (IsRefusalOfReads overlay.old.reads overlay.new.reads) }
     ensures seen { IsSeen overlay.old overlay.new
         (looks_at (formula_at map.now.pairs place source.now steps.now) (b + 1 - a)) }
     ensures memory { Rises (IsErrOf result Refusal.OutOfMemory) room.old room.new }
@@ -90,9 +92,9 @@ fn filled(
     requires last { b ≤ count_of overlay.old.volume }
     requires empty { bytes.items ≡ [] }
     requires room { place.kind.size * (b + 1 - a) ≤ vec_capacity bytes }
-    ensures none { OnOk result (IsTrue overlay.new.agreed → compute_refusal_in overlay.old.volume
+    ensures none { OnOk result (HaveAgreed overlay.new.reads → compute_refusal_in overlay.old.volume
         (Some (record { place = place; source = source; steps = steps.now })) a b ≡ None) }
-    ensures bytes { IfOk result (λ bytes. IsTrue overlay.new.agreed → bytes.items ≡ number_bytes
+    ensures bytes { IfOk result (λ bytes. HaveAgreed overlay.new.reads → bytes.items ≡ number_bytes
         overlay.old.volume (Some (record {
           place = place;
           source = source;
@@ -102,9 +104,10 @@ fn filled(
     ensures each { OnOk result ((k : ℕ) → k < b + 1 - a →
         HoldsPlace (trace_at overlay.old.volume (a + k)) place) }
     ensures err { IfErr result (λ refusal. IsReadRefusal overlay.old.loaded.on_disk refusal ⊎
-        (IsTrue overlay.new.agreed → compute_refusal_in overlay.old.volume
+        (HaveAgreed overlay.new.reads → compute_refusal_in overlay.old.volume
         (Some (record { place = place; source = source; steps = steps.now })) a b
         ≡ Some refusal)) }
+    ensures reads_tell { IfErr result (IsRefusalOfReads overlay.old.reads overlay.new.reads) }
     ensures other { IfErr result (λ refusal. refusal ≢ Refusal.OutOfMemory) }
     ensures seen { IsSeen overlay.old overlay.new (b + 1 - a) }
 {
@@ -128,16 +131,17 @@ fn number_at(
     steps: &[(Operator, Term)],
 ) -> Result<i128, Refusal>
     requires { IsTrue (is_trace overlay.old.volume p) }
-    ensures none { OnOk result (IsTrue overlay.new.agreed → compute_refusal overlay.old.volume
+    ensures none { OnOk result (HaveAgreed overlay.new.reads → compute_refusal overlay.old.volume
         (record { place = place; source = source; steps = steps.now }) p ≡ None) }
-    ensures number { IfOk result (λ x. IsTrue overlay.new.agreed → computed_in
+    ensures number { IfOk result (λ x. HaveAgreed overlay.new.reads → computed_in
         overlay.old.volume.head (record { place = place; source = source; steps = steps.now }) p
         (trace_at overlay.old.volume p) ≡ Ok x) }
     ensures fits { IfOk result (InRange place.kind) }
     ensures place { OnOk result (HoldsPlace (trace_at overlay.old.volume p) place) }
     ensures err { IfErr result (λ refusal. IsReadRefusal overlay.old.loaded.on_disk refusal ⊎
-        (IsTrue overlay.new.agreed → compute_refusal overlay.old.volume
+        (HaveAgreed overlay.new.reads → compute_refusal overlay.old.volume
         (record { place = place; source = source; steps = steps.now }) p ≡ Some refusal)) }
+    ensures reads_tell { IfErr result (IsRefusalOfReads overlay.old.reads overlay.new.reads) }
     ensures other { IfErr result (λ refusal. refusal ≢ Refusal.OutOfMemory) }
     ensures seen { IsSeen overlay.old overlay.new 1 }
 {
@@ -181,10 +185,12 @@ fn without_memory(
     requires range { a ≤ b }
     requires last { b ≤ count_of overlay.old.volume }
     ensures read { IfErr result (λ _. IsTrue overlay.old.loaded.on_disk) }
-    ensures refusal { IfOk result (λ refusal. IsTrue overlay.new.agreed →
+    ensures reads_tell { IfErr result (IsFaultOfLook overlay.old.reads overlay.new.reads) }
+    ensures refusal { IfOk result (λ refusal. HaveAgreed overlay.new.reads →
         (terms : List (Operator × Term)) → steps_of map.now.pairs steps.now ≡ Some terms →
         IsRefusalFor refusal (compute_refusal_in overlay.old.volume
         (Some (record { place = place; source = source; steps = terms })) a b)) }
+    ensures rule { IfOk result IsRefusalOfNoRead }
     ensures seen { IsSeen overlay.old overlay.new (b + 1 - a) }
 {
     for k in 0..b - a + 1 {
@@ -207,12 +213,14 @@ fn refusal_by_names(
     steps: &[(Operator, Operand)],
 ) -> Result<Option<Refusal>, ReadFault>
     requires { IsTrue (is_trace overlay.old.volume p) }
-    ensures refusal { IfOk result (λ refusal. IsTrue overlay.new.agreed →
+    ensures refusal { IfOk result (λ refusal. HaveAgreed overlay.new.reads →
         (terms : List (Operator × Term)) → steps_of map.now.pairs steps.now ≡ Some terms →
         refusal ≡ compute_refusal overlay.old.volume
         (record { place = place; source = source; steps = terms }) p) }
+    ensures rule { IfOk result (λ refusal. IfSome refusal IsRefusalOfNoRead) }
     ensures seen { IsSeen overlay.old overlay.new 1 }
     ensures read { IfErr result (λ _. IsTrue overlay.old.loaded.on_disk) }
+    ensures reads_tell { IfErr result (IsFaultOfLook overlay.old.reads overlay.new.reads) }
 {
     let order = overlay.head().order;
     let Some(trace) = overlay.look(p)? else {

@@ -6,11 +6,12 @@ ghost use Rattle.frame_cut.specs.Traces.{count_of, is_trace, trace_at};
 ghost use Rattle.trace_view.specs.Shown.{bytes_of, head_of};
 ghost use Rattle.trace_view.specs.Values.{samples_at};
 ghost use Rattle.edit_overlay.specs.CountedVolume.{IsSeen};
+ghost use Rattle.edit_overlay.specs.Reads.{HaveAgreed, IsFaultOfLook};
 ghost use Rattle.bench_rules.specs.declared.refusal.Refusal.TheVariants.{OutOfMemory as no_memory};
 ghost use Rattle.bench_rules.specs.Computed.{first_at};
 ghost use Rattle.bench_rules.specs.Conditions.{AreRising};
 ghost use Rattle.bench_rules.specs.FilledSamples.{samples_refusal as refusal_of_samples};
-ghost use Rattle.bench_rules.specs.ReadFaults.{IsReadRefusal};
+ghost use Rattle.bench_rules.specs.ReadFaults.{IsReadRefusal, IsRefusalOfNoRead, IsRefusalOfReads};
 ghost use Rattle.many_traces.specs.SamplePlaces.{AreSamplePlaces, HaveSampleRoom};
 
 use bench_rules::{Refusal, sample_place, samples_refusal};
@@ -33,18 +34,19 @@ pub fn sample_places(
     last: u32,
 ) -> Result<Vec<u64>, Refusal>
     requires rising { AreRising 1 (count_of overlay.old.volume) traces.now }
-    ensures none { OnOk result (IsTrue overlay.new.agreed → first_at
+    ensures none { OnOk result (HaveAgreed overlay.new.reads → first_at
         (λ p. refusal_of_samples overlay.old.volume.head first last
         (trace_at overlay.old.volume p)) traces.now ≡ None) }
-    ensures places { IfOk result (λ places. IsTrue overlay.new.agreed →
+    ensures places { IfOk result (λ places. HaveAgreed overlay.new.reads →
         AreSamplePlaces overlay.old.volume first traces.now places.items) }
     ensures count { IfOk result (λ places. length places.items ≡ length traces.now) }
     ensures room { IfOk result (λ places.
         HaveSampleRoom overlay.old.volume (last + 1 - first) traces.now places.items) }
     ensures err { IfErr result (λ refusal. (refusal ≡ no_memory) ⊎
-        IsReadRefusal overlay.old.loaded.on_disk refusal ⊎ (IsTrue overlay.new.agreed → first_at
+        IsReadRefusal overlay.old.loaded.on_disk refusal ⊎ (HaveAgreed overlay.new.reads → first_at
         (λ p. refusal_of_samples overlay.old.volume.head first last
         (trace_at overlay.old.volume p)) traces.now ≡ Some refusal)) }
+    ensures reads_tell { IfErr result (IsRefusalOfReads overlay.old.reads overlay.new.reads) }
     ensures seen { IsSeen overlay.old overlay.new (length traces.now) }
     ensures memory { Rises (IsErrOf result Refusal.OutOfMemory) room.old room.new }
 {
@@ -66,21 +68,24 @@ fn place_at(
     last: u32,
 ) -> Result<Result<u64, Refusal>, ReadFault>
     requires trace { IsTrue (is_trace overlay.old.volume p) }
-    ensures none { IfOk result (λ found. OnOk found (IsTrue overlay.new.agreed → refusal_of_samples
-        overlay.old.volume.head first last (trace_at overlay.old.volume p) ≡ None)) }
-    ensures place { IfOk result (λ found. IfOk found (λ place. IsTrue overlay.new.agreed →
+    ensures none { IfOk result (λ found. OnOk found (HaveAgreed overlay.new.reads →
+        refusal_of_samples overlay.old.volume.head first last (trace_at overlay.old.volume p)
+        ≡ None)) }
+    ensures place { IfOk result (λ found. IfOk found (λ place. HaveAgreed overlay.new.reads →
         place ≡ samples_at overlay.old.volume.head (trace_at overlay.old.volume p)
         + width overlay.old.volume.head.format * first)) }
     ensures room { IfOk result (λ found. IfOk found (λ place.
         place + width overlay.old.volume.head.format * (last + 1 - first)
         ≤ length (trace_at overlay.old.volume p))) }
-    ensures refused { IfOk result (λ found. IfErr found (λ refusal. IsTrue overlay.new.agreed →
+    ensures refused { IfOk result (λ found. IfErr found (λ refusal. HaveAgreed overlay.new.reads →
         refusal_of_samples overlay.old.volume.head first last (trace_at overlay.old.volume p)
         ≡ Some refusal)) }
     ensures other { IfOk result (λ found. IfErr found (λ refusal.
         refusal ≢ Refusal.OutOfMemory)) }
+    ensures rule { IfOk result (λ found. IfErr found IsRefusalOfNoRead) }
     ensures seen { IsSeen overlay.old overlay.new 1 }
     ensures read { IfErr result (λ _. IsTrue overlay.old.loaded.on_disk) }
+    ensures reads_tell { IfErr result (IsFaultOfLook overlay.old.reads overlay.new.reads) }
 {
     let format = overlay.head().format;
     let Some(trace) = overlay.look(p)? else {

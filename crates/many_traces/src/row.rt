@@ -4,6 +4,7 @@ ghost use Rattle.std.specs.Vec.{vec_len, vec_capacity};
 ghost use Rattle.trace_view.specs.Shown.{bytes_of, head_of};
 ghost use Rattle.frame_cut.specs.Traces.{is_trace, trace_at};
 ghost use Rattle.edit_overlay.specs.CountedVolume.{IsSeen};
+ghost use Rattle.edit_overlay.specs.Reads.{HaveAgreed, IsFaultOfLook};
 ghost use Rattle.bench_rules.specs.ManyTraces.{each_of};
 ghost use Rattle.bench_rules.specs.Tables.{row_of};
 ghost use Rattle.many_traces.specs.Fields.{number_in};
@@ -69,9 +70,9 @@ pub fn push_row(
 ) -> Result<bool, ReadFault>
     requires trace { IsTrue (is_trace overlay.old.volume p) }
     requires room { vec_len numbers.old + length places.now ≤ vec_capacity numbers.old }
-    ensures there { IfOk result (λ there. IsTrue overlay.new.agreed → there ≡ is_some
+    ensures there { IfOk result (λ there. HaveAgreed overlay.new.reads → there ≡ is_some
         (row_of overlay.old.volume.head places.now (trace_at overlay.old.volume p))) }
-    ensures row { IfOk result (λ there. IsTrue overlay.new.agreed → IsTrue there →
+    ensures row { IfOk result (λ there. HaveAgreed overlay.new.reads → IsTrue there →
         option_map (λ row. numbers.old.items ++ row) (row_of overlay.old.volume.head places.now
         (trace_at overlay.old.volume p)) ≡ Some numbers.new.items) }
     ensures count { IfOk result (λ there. IsTrue there → vec_len numbers.new
@@ -79,6 +80,7 @@ pub fn push_row(
     ensures room { vec_capacity numbers.old ≤ vec_capacity numbers.new }
     ensures seen { IsSeen overlay.old overlay.new 1 }
     ensures read { IfErr result (λ _. IsTrue overlay.old.loaded.on_disk) }
+    ensures reads_tell { IfErr result (IsFaultOfLook overlay.old.reads overlay.new.reads) }
 {
     let Some(trace) = overlay.look(p)? else {
         unreachable!()
@@ -95,11 +97,12 @@ pub fn has_row(
     fields: &[Field],
 ) -> Result<bool, ReadFault>
     requires { IsTrue (is_trace overlay.old.volume p) }
-    ensures there { IfOk result (λ there. IsTrue overlay.new.agreed → there ≡ is_some (each_of
+    ensures there { IfOk result (λ there. HaveAgreed overlay.new.reads → there ≡ is_some (each_of
         (number_in overlay.old.volume.head (trace_at overlay.old.volume p) map.now.pairs)
         fields.now)) }
     ensures seen { IsSeen overlay.old overlay.new 1 }
     ensures read { IfErr result (λ _. IsTrue overlay.old.loaded.on_disk) }
+    ensures reads_tell { IfErr result (IsFaultOfLook overlay.old.reads overlay.new.reads) }
 {
     let Some(trace) = overlay.look(p)? else {
         unreachable!()

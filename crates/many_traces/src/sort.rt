@@ -1,13 +1,14 @@
 // The exchanges of traces that put them in the order of their numbers.
-ghost use Rattle.std.specs.Prelude.{◌≡◌, ℕ, ◌+◌, ◌-◌, ◌<◌, ◌≤◌, ◌^◌, ◌⊎◌, length, All, IsTrue, IfOk, IfErr, IsErrOf};
+ghost use Rattle.std.specs.Prelude.{◌≡◌, ℕ, ◌+◌, ◌-◌, ◌<◌, ◌≤◌, ◌^◌, ◌⊎◌, length, All, IfOk, IfErr, IsErrOf};
 ghost use Rattle.room.specs.Refusals.{Rises};
 ghost use Rattle.frame_cut.specs.Traces.{count_of};
 ghost use Rattle.edit_overlay.specs.CountedVolume.{IsSeen};
+ghost use Rattle.edit_overlay.specs.Reads.{HaveAgreed};
 ghost use Rattle.bench_rules.specs.declared.refusal.Refusal.TheVariants.{OutOfMemory as no_memory};
 ghost use Rattle.bench_rules.specs.Looks.{looks_at};
 ghost use Rattle.bench_rules.specs.ManyTraces.{each_of};
 ghost use Rattle.bench_rules.specs.Places.{place_in_trace};
-ghost use Rattle.bench_rules.specs.ReadFaults.{IsReadRefusal};
+ghost use Rattle.bench_rules.specs.ReadFaults.{IsReadRefusal, IsRefusalOfReads};
 ghost use Rattle.bench_rules.specs.Refused.{sort_refusal};
 ghost use Rattle.trace_store.specs.Swapped.{ArePlaces};
 ghost use Rattle.many_traces.specs.Arranged.{PutsRows, Sorts};
@@ -41,13 +42,14 @@ pub fn exchanges_to_sort(
     requires first { 1 ≤ a }
     requires range { a ≤ b }
     requires last { b ≤ count_of overlay.old.volume }
-    ensures ok { IfOk result (λ pairs. IsTrue overlay.new.agreed → Sorts overlay.old.volume
+    ensures ok { IfOk result (λ pairs. HaveAgreed overlay.new.reads → Sorts overlay.old.volume
         (each_of (place_in_trace map.now.pairs) fields.now) falling.now a b pairs.items) }
     ensures places { IfOk result (λ pairs. ArePlaces (count_of overlay.old.volume) pairs.items) }
     ensures err { IfErr result (λ refusal. (IsReadRefusal overlay.old.loaded.on_disk refusal
         × (0 < looks_at (each_of (place_in_trace map.now.pairs) fields.now) (b + 1 - a))) ⊎
-        (IsTrue overlay.new.agreed → IsRefusalFor refusal (sort_refusal overlay.old.volume a b
+        (HaveAgreed overlay.new.reads → IsRefusalFor refusal (sort_refusal overlay.old.volume a b
         (each_of (place_in_trace map.now.pairs) fields.now)))) }
+    ensures reads_tell { IfErr result (IsRefusalOfReads overlay.old.reads overlay.new.reads) }
     ensures seen { IsSeen overlay.old overlay.new
         (looks_at (each_of (place_in_trace map.now.pairs) fields.now) (b + 1 - a)) }
     ensures memory { Rises (IsErrOf result Refusal.OutOfMemory) room.old room.new }

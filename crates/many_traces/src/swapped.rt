@@ -7,10 +7,11 @@ ghost use Rattle.frame_cut.specs.Splice.{splice};
 ghost use Rattle.frame_cut.specs.Traces.{count_of, is_trace, trace_at};
 ghost use Rattle.trace_view.specs.Shown.{bytes_of, head_of};
 ghost use Rattle.edit_overlay.specs.CountedVolume.{IsSeen};
+ghost use Rattle.edit_overlay.specs.Reads.{HaveAgreed, IsFaultOfLook};
 ghost use Rattle.bench_rules.specs.declared.refusal.Refusal.TheVariants.{OutOfMemory as no_memory};
 ghost use Rattle.bench_rules.specs.Computed.{first_at};
 ghost use Rattle.bench_rules.specs.Conditions.{AreRising};
-ghost use Rattle.bench_rules.specs.ReadFaults.{IsReadRefusal};
+ghost use Rattle.bench_rules.specs.ReadFaults.{IsReadRefusal, IsRefusalOfNoRead, IsRefusalOfReads};
 ghost use Rattle.bench_rules.specs.SwappedFields.{swap_refusal, swapped};
 ghost use Rattle.many_traces.specs.Spans.{span_size, span_start, AreSwapped, HasSpan, HaveSpan};
 
@@ -59,18 +60,19 @@ pub fn swapped_bytes(
     second: Place,
 ) -> Result<Vec<u8>, Refusal>
     requires rising { AreRising 1 (count_of overlay.old.volume) traces.now }
-    ensures none { OnOk result (IsTrue overlay.new.agreed → first_at
+    ensures none { OnOk result (HaveAgreed overlay.new.reads → first_at
         (λ p. swap_refusal overlay.old.volume.head (first, second)
         (trace_at overlay.old.volume p)) traces.now ≡ None) }
-    ensures parts { IfOk result (λ bytes. IsTrue overlay.new.agreed →
+    ensures parts { IfOk result (λ bytes. HaveAgreed overlay.new.reads →
         AreSwapped overlay.old.volume (first, second) traces.now bytes.items) }
     ensures count { IfOk result (λ bytes.
         length bytes.items ≡ length traces.now * span_size (first, second)) }
     ensures inside { OnOk result (HaveSpan overlay.old.volume (first, second) traces.now) }
     ensures err { IfErr result (λ refusal. (refusal ≡ no_memory) ⊎
-        IsReadRefusal overlay.old.loaded.on_disk refusal ⊎ (IsTrue overlay.new.agreed → first_at
+        IsReadRefusal overlay.old.loaded.on_disk refusal ⊎ (HaveAgreed overlay.new.reads → first_at
         (λ p. swap_refusal overlay.old.volume.head (first, second)
         (trace_at overlay.old.volume p)) traces.now ≡ Some refusal)) }
+    ensures reads_tell { IfErr result (IsRefusalOfReads overlay.old.reads overlay.new.reads) }
     ensures seen { IsSeen overlay.old overlay.new (length traces.now) }
     ensures memory { Rises (IsErrOf result Refusal.OutOfMemory) room.old room.new }
 {
@@ -101,17 +103,19 @@ fn swap_at(
     requires trace { IsTrue (is_trace overlay.old.volume p) }
     requires start { at ≡ span_start (first, second) }
     requires size { length part.old ≡ span_size (first, second) }
-    ensures refusal { IfOk result (λ refusal. IsTrue overlay.new.agreed → refusal ≡ swap_refusal
+    ensures refusal { IfOk result (λ refusal. HaveAgreed overlay.new.reads → refusal ≡ swap_refusal
         overlay.old.volume.head (first, second) (trace_at overlay.old.volume p)) }
-    ensures part { IfOk result (λ refusal. IsTrue overlay.new.agreed → refusal ≡ None →
+    ensures part { IfOk result (λ refusal. HaveAgreed overlay.new.reads → refusal ≡ None →
         splice (trace_at overlay.old.volume p) (span_start (first, second))
         (span_size (first, second)) part.new
         ≡ swapped overlay.old.volume.head (first, second) (trace_at overlay.old.volume p)) }
     ensures other { IfOk result (λ refusal. IfSome refusal (λ r. r ≢ Refusal.OutOfMemory)) }
+    ensures rule { IfOk result (λ refusal. IfSome refusal IsRefusalOfNoRead) }
     ensures inside { IfOk result (λ refusal. refusal ≡ None →
         HasSpan (first, second) (trace_at overlay.old.volume p)) }
     ensures seen { IsSeen overlay.old overlay.new 1 }
     ensures read { IfErr result (λ _. IsTrue overlay.old.loaded.on_disk) }
+    ensures reads_tell { IfErr result (IsFaultOfLook overlay.old.reads overlay.new.reads) }
 {
     let order = overlay.head().order;
     let Some(trace) = overlay.look(p)? else {

@@ -4,6 +4,7 @@ ghost use Rattle.std.specs.Vec.{vec_capacity};
 ghost use Rattle.room.specs.Refusals.{Rises};
 ghost use Rattle.frame_cut.specs.Traces.{count_of};
 ghost use Rattle.edit_overlay.specs.CountedVolume.{IsSeen};
+ghost use Rattle.edit_overlay.specs.Reads.{Reads, HaveAgreed, IsFaultOfLook};
 ghost use Rattle.bench_rules.specs.declared.ask_fault.AskFault.TheVariants.{NoPlace, OutOfMemory as no_memory};
 ghost use Rattle.field_map.specs.declared.place.Place.{Place};
 ghost use Rattle.bench_rules.specs.declared.answer.Answer.TheVariants as answers;
@@ -13,7 +14,7 @@ ghost use Rattle.bench_rules.specs.Conditions.{AreRising};
 ghost use Rattle.bench_rules.specs.Looks.{looks_at};
 ghost use Rattle.bench_rules.specs.ManyTraces.{each_of};
 ghost use Rattle.bench_rules.specs.Places.{place_in_trace};
-ghost use Rattle.bench_rules.specs.ReadFaults.{IsReadFault};
+ghost use Rattle.bench_rules.specs.ReadFaults.{IsFaultOfReads, IsReadFault};
 ghost use Rattle.bench_rules.specs.Tables.{rows_at, table_of};
 ghost use Rattle.bench_rules.specs.RangeFaults.{fault_of, IsFaultFor};
 
@@ -39,14 +40,16 @@ pub fn table(
     requires first { 1 ≤ a }
     requires range { a ≤ b }
     requires last { b ≤ count_of overlay.old.volume }
-    ensures ok { IfOk result (λ rows. IsTrue overlay.new.agreed → table_answer overlay.old.volume a
-        b (each_of (place_in_trace map.now.pairs) fields.now) ≡ Ok (answers.Table rows)) }
+    ensures ok { IfOk result (λ rows. HaveAgreed overlay.new.reads → table_answer
+        overlay.old.volume a b (each_of (place_in_trace map.now.pairs) fields.now)
+        ≡ Ok (answers.Table rows)) }
     ensures count { IfOk result (λ rows. length rows ≡ b + 1 - a) }
     ensures wide { IfOk result (λ rows. All (λ row. length row.1 ≡ length fields.now) rows) }
     ensures err { IfErr result (λ fault. (IsReadFault overlay.old.loaded.on_disk fault
         × (0 < looks_at (each_of (place_in_trace map.now.pairs) fields.now) (b + 1 - a))) ⊎
-        (IsTrue overlay.new.agreed → IsFaultFor fault (table_answer overlay.old.volume a b
+        (HaveAgreed overlay.new.reads → IsFaultFor fault (table_answer overlay.old.volume a b
         (each_of (place_in_trace map.now.pairs) fields.now)))) }
+    ensures reads_tell { IfErr result (IsFaultOfReads overlay.old.reads overlay.new.reads) }
     ensures seen { IsSeen overlay.old overlay.new
         (looks_at (each_of (place_in_trace map.now.pairs) fields.now) (b + 1 - a)) }
     ensures memory { Rises (IsErrOf result AskFault.OutOfMemory) room.old room.new }
@@ -74,13 +77,14 @@ pub fn table_among(
     fields: &[Field],
 ) -> Result<Table, AskFault>
     requires { AreRising 1 (count_of overlay.old.volume) traces.items }
-    ensures ok { IfOk result (λ rows. IsTrue overlay.new.agreed → table_answer_of_each
+    ensures ok { IfOk result (λ rows. HaveAgreed overlay.new.reads → table_answer_of_each
         overlay.old.volume traces.items (each_of (place_in_trace map.now.pairs) fields.now)
         ≡ Ok (answers.Table rows)) }
     ensures err { IfErr result (λ fault. (fault ≡ no_memory) ⊎
         (IsReadFault overlay.old.loaded.on_disk fault × (0 < length traces.items)) ⊎
-        (IsTrue overlay.new.agreed → table_answer_of_each overlay.old.volume traces.items
+        (HaveAgreed overlay.new.reads → table_answer_of_each overlay.old.volume traces.items
         (each_of (place_in_trace map.now.pairs) fields.now) ≡ Err fault)) }
+    ensures reads_tell { IfErr result (IsFaultOfReads overlay.old.reads overlay.new.reads) }
     ensures seen { IsSeen overlay.old overlay.new (length traces.items) }
     ensures memory { Rises (IsErrOf result AskFault.OutOfMemory) room.old room.new }
 {
@@ -126,13 +130,14 @@ fn filled(
     requires last { b ≤ count_of overlay.old.volume }
     requires empty { numbers.items ≡ [] }
     requires room { length places.now * (b + 1 - a) ≤ vec_capacity numbers }
-    ensures ok { IfOk result (λ rows. IsTrue overlay.new.agreed →
+    ensures ok { IfOk result (λ rows. HaveAgreed overlay.new.reads →
         table_of overlay.old.volume places.now a b ≡ Some rows) }
     ensures count { IfOk result (λ rows. length rows ≡ b + 1 - a) }
     ensures wide { IfOk result (λ rows. All (λ row. length row.1 ≡ length places.now) rows) }
     ensures err { IfErr result (λ fault. IsReadFault overlay.old.loaded.on_disk fault ⊎
-        (IsTrue overlay.new.agreed → (fault ≡ NoPlace) ×
+        (HaveAgreed overlay.new.reads → (fault ≡ NoPlace) ×
         (table_of overlay.old.volume places.now a b ≡ None))) }
+    ensures reads_tell { IfErr result (IsFaultOfReads overlay.old.reads overlay.new.reads) }
     ensures other { IfErr result (λ fault. fault ≢ AskFault.OutOfMemory) }
     ensures seen { IsSeen overlay.old overlay.new (b + 1 - a) }
 {
@@ -157,15 +162,16 @@ fn listed_rows(
     requires rising { AreRising 1 (count_of overlay.old.volume) traces.now }
     requires empty { numbers.items ≡ [] }
     requires room { length places.now * length traces.now ≤ vec_capacity numbers }
-    ensures ok { IfOk result (λ numbers. IsTrue overlay.new.agreed →
+    ensures ok { IfOk result (λ numbers. HaveAgreed overlay.new.reads →
         table_of_each overlay.old.volume places.now traces.now
         ≡ Some (rows_at traces.now (length places.now) numbers.items)) }
     ensures full { IfOk result (λ numbers.
         length numbers.items ≡ length places.now * length traces.now) }
     ensures err { IfErr result (λ fault.
         (IsReadFault overlay.old.loaded.on_disk fault × (0 < length traces.now)) ⊎
-        ((fault ≡ NoPlace) × (IsTrue overlay.new.agreed →
+        ((fault ≡ NoPlace) × (HaveAgreed overlay.new.reads →
         table_of_each overlay.old.volume places.now traces.now ≡ None))) }
+    ensures reads_tell { IfErr result (IsFaultOfReads overlay.old.reads overlay.new.reads) }
     ensures other { IfErr result (λ fault. fault ≢ AskFault.OutOfMemory) }
     ensures seen { IsSeen overlay.old overlay.new (length traces.now) }
 {
@@ -190,11 +196,13 @@ fn without_memory(
     requires first { 1 ≤ a }
     requires range { a ≤ b }
     requires last { b ≤ count_of overlay.old.volume }
-    ensures fault { IfOk result (λ fault. IsTrue overlay.new.agreed → (places : List Place) →
+    ensures fault { IfOk result (λ fault. HaveAgreed overlay.new.reads → (places : List Place) →
         each_of (place_in_trace map.now.pairs) fields.now ≡ Some places →
         fault ≡ fault_of (table_of overlay.old.volume places a b)) }
     ensures seen { IsSeen overlay.old overlay.new (b + 1 - a) }
     ensures read { IfErr result (λ _. IsTrue overlay.old.loaded.on_disk) }
+    ensures reads_tell { IfErr result (IsFaultOfLook overlay.old.reads overlay.new.reads) }
+    ensures rule { (old new : Reads) → IfOk result (IsFaultOfReads old new) }
 {
     for k in 0..b - a + 1 {
         let there = has_row(overlay, map, a + k, fields)?;

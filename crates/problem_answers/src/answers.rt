@@ -1,10 +1,11 @@
 // The answer of the query for all that is wrong or doubtful.
-ghost use Rattle.std.specs.Prelude.{◌≡◌, ◌⊎◌, ◌++◌, ◌<◌, ◌^◌, Bool, List, [], length, map, IsTrue, IfErr, IfOk, OnOk, if◌then◌else◌, IsErrOf};
+ghost use Rattle.std.specs.Prelude.{◌≡◌, ◌⊎◌, ◌++◌, ◌<◌, ◌^◌, Bool, List, [], length, map, IfErr, IfOk, OnOk, if◌then◌else◌, IsErrOf};
 ghost use Rattle.room.specs.Refusals.{Rises};
 ghost use Rattle.trace_record.specs.Facts.{facts_of};
 ghost use Rattle.trace_record.specs.Packed.{record_in};
 ghost use Rattle.trace_view.specs.Values.{has_floats};
 ghost use Rattle.edit_overlay.specs.CountedVolume.{IsSeen};
+ghost use Rattle.edit_overlay.specs.Reads.{HaveAgreed};
 ghost use Rattle.fault_live.specs.FaultKeys.{keys_of_faults};
 ghost use Rattle.fault_live.specs.Faults.{faults_of};
 ghost use Rattle.fault_live.specs.OfFaults.{tally_of_faults};
@@ -18,7 +19,7 @@ ghost use Rattle.bench_rules.specs.declared.query.Query.TheVariants as queries;
 ghost use Rattle.bench_rules.specs.Answer.{IsReply};
 ghost use Rattle.bench_rules.specs.Live.{AreRecordsOf};
 ghost use Rattle.bench_rules.specs.Problems.{delays_of, fault_problems, problems_with, sample_problems, survey_problems, value_problems};
-ghost use Rattle.bench_rules.specs.ReadFaults.{IsReadFault};
+ghost use Rattle.bench_rules.specs.ReadFaults.{IsFaultOfReads, IsReadFault};
 ghost use Rattle.bench_rules.specs.Reports.{head_facts as head_facts_of};
 ghost use Rattle.bench_rules.specs.State.{State};
 ghost use Rattle.problem_answers.specs.Parts.{doubts_of, late_of};
@@ -61,9 +62,10 @@ pub fn problems_answer(
         (map facts_of (map record_in overlay.old.payloads))) }
     ensures reply { (s : State) → s.volume ≡ overlay.old.volume →
         s.fields ≡ fields.now.pairs → s.on_disk ≡ overlay.old.loaded.on_disk →
-        IsTrue overlay.new.agreed →
+        HaveAgreed overlay.new.reads →
         AreRecordsOf s (map record_in overlay.old.payloads) →
         IsReply s queries.Problems result }
+    ensures reads_tell { IfErr result (IsFaultOfReads overlay.old.reads overlay.new.reads) }
     ensures seen { IsSeen overlay.old overlay.new (count_of overlay.old.volume) }
     ensures memory { Rises (IsErrOf result AskFault.OutOfMemory) room.old room.new }
 {
@@ -127,10 +129,11 @@ fn late_traces(
     room: &mut Room,
     overlay: &mut Overlay<PackedRecord>,
 ) -> Result<Vec<ProblemLine>, AskFault>
-    ensures ok { IfOk result (λ lines. IsTrue overlay.new.agreed →
+    ensures ok { IfOk result (λ lines. HaveAgreed overlay.new.reads →
         lines.items ≡ late_of (delays_of overlay.old.volume)) }
     ensures err { IfErr result (λ fault. (fault ≡ no_memory) ⊎
         (IsReadFault overlay.old.loaded.on_disk fault × (0 < count_of overlay.old.volume))) }
+    ensures reads_tell { IfErr result (IsFaultOfReads overlay.old.reads overlay.new.reads) }
     ensures seen { IsSeen overlay.old overlay.new (count_of overlay.old.volume) }
     ensures memory { Rises (IsErrOf result AskFault.OutOfMemory) room.old room.new }
 {

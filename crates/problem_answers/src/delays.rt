@@ -4,9 +4,10 @@ ghost use Rattle.room.specs.Refusals.{Rises};
 ghost use Rattle.frame_cut.specs.Traces.{count_of, is_trace, trace_at};
 ghost use Rattle.trace_view.specs.Shown.{bytes_of, head_of};
 ghost use Rattle.edit_overlay.specs.CountedVolume.{IsSeen};
+ghost use Rattle.edit_overlay.specs.Reads.{HaveAgreed, IsFaultOfLook};
 ghost use Rattle.bench_rules.specs.declared.ask_fault.AskFault.TheVariants.{OutOfMemory as no_memory};
 ghost use Rattle.bench_rules.specs.Problems.{delay_of, delays_of};
-ghost use Rattle.bench_rules.specs.ReadFaults.{IsReadFault};
+ghost use Rattle.bench_rules.specs.ReadFaults.{IsFaultOfReads, IsReadFault};
 
 use bench_rules::AskFault;
 use edit_overlay::{Overlay, ReadFault};
@@ -24,11 +25,12 @@ pub(crate) fn delays(
     room: &mut Room,
     overlay: &mut Overlay<PackedRecord>,
 ) -> Result<Vec<i64>, AskFault>
-    ensures ok { IfOk result (λ delays. IsTrue overlay.new.agreed →
+    ensures ok { IfOk result (λ delays. HaveAgreed overlay.new.reads →
         delays.items ≡ delays_of overlay.old.volume) }
     ensures few { IfOk result (λ delays. length delays.items < 2 ^ 32) }
     ensures err { IfErr result (λ fault. (fault ≡ no_memory) ⊎
         (IsReadFault overlay.old.loaded.on_disk fault × (0 < count_of overlay.old.volume))) }
+    ensures reads_tell { IfErr result (IsFaultOfReads overlay.old.reads overlay.new.reads) }
     ensures seen { IsSeen overlay.old overlay.new (count_of overlay.old.volume) }
     ensures memory { Rises (IsErrOf result AskFault.OutOfMemory) room.old room.new }
 {
@@ -44,10 +46,11 @@ pub(crate) fn delays(
 // The delay of trace p, in one look.
 fn delay(overlay: &mut Overlay<PackedRecord>, p: u32) -> Result<i64, ReadFault>
     requires trace { IsTrue (is_trace overlay.old.volume p) }
-    ensures ok { IfOk result (λ delay. IsTrue overlay.new.agreed → delay
+    ensures ok { IfOk result (λ delay. HaveAgreed overlay.new.reads → delay
         ≡ delay_of overlay.old.volume.head (trace_at overlay.old.volume p)) }
     ensures seen { IsSeen overlay.old overlay.new 1 }
     ensures read { IfErr result (λ _. IsTrue overlay.old.loaded.on_disk) }
+    ensures reads_tell { IfErr result (IsFaultOfLook overlay.old.reads overlay.new.reads) }
 {
     let Some(trace) = overlay.look(p)? else {
         unreachable!()

@@ -12,6 +12,7 @@ ghost use Rattle.bench_rules.specs.declared.query.Query.TheVariants as queries;
 ghost use Rattle.bench_rules.specs.Answer.{IsReply};
 ghost use Rattle.bench_rules.specs.Live.{AreRecordsOf};
 ghost use Rattle.bench_rules.specs.Problems.{position_problems};
+ghost use Rattle.bench_rules.specs.ReadFaults.{IsFaultOfNoRead};
 ghost use Rattle.bench_rules.specs.State.{State};
 
 use crate::lines::{push_jumps, push_shared};
@@ -64,6 +65,7 @@ pub fn survey_answer(
         (map facts_of (map record_in overlay.now.payloads))) }
     ensures reply { (s : State) → AreRecordsOf s (map record_in overlay.now.payloads) →
         IsReply s queries.Survey result }
+    ensures unread { IfErr result IsFaultOfNoRead }
     ensures memory { Rises (IsErrOf result AskFault.OutOfMemory) room.old room.new }
 {
     let records = Records::new(overlay.payloads());

@@ -1,12 +1,13 @@
 // What the samples of listed traces say, one trace after another.
-ghost use Rattle.std.specs.Prelude.{◌≡◌, ◌⊎◌, ◌<◌, Ok, Err, IsTrue, IfOk, IfErr, false, length, map, true, IsErrOf};
+ghost use Rattle.std.specs.Prelude.{◌≡◌, ◌⊎◌, ◌<◌, Ok, Err, IfOk, IfErr, false, length, map, true, IsErrOf};
 ghost use Rattle.room.specs.Refusals.{Rises};
 ghost use Rattle.frame_cut.specs.Traces.{count_of};
 ghost use Rattle.trace_view.specs.Values.{has_floats};
 ghost use Rattle.edit_overlay.specs.CountedVolume.{IsSeen};
+ghost use Rattle.edit_overlay.specs.Reads.{HaveAgreed};
 ghost use Rattle.bench_rules.specs.declared.ask_fault.AskFault.TheVariants.{OutOfMemory as no_memory};
 ghost use Rattle.bench_rules.specs.Conditions.{AreRising};
-ghost use Rattle.bench_rules.specs.ReadFaults.{IsReadFault};
+ghost use Rattle.bench_rules.specs.ReadFaults.{IsFaultOfReads, IsReadFault};
 ghost use Rattle.bench_rules.specs.SampleStatistics.{float_trace_statistics, samples_at, stats_answer_of_each, trace_statistics};
 
 use crate::of_trace::{of_floats, of_numbers};
@@ -27,11 +28,12 @@ pub fn stats_among(
     traces: &[u32],
 ) -> Result<Answer, AskFault>
     requires { AreRising 1 (count_of overlay.old.volume) traces.now }
-    ensures ok { IfOk result (λ answer. IsTrue overlay.new.agreed →
+    ensures ok { IfOk result (λ answer. HaveAgreed overlay.new.reads →
         stats_answer_of_each overlay.old.volume traces.now ≡ Ok answer) }
     ensures err { IfErr result (λ fault. (fault ≡ no_memory) ⊎
         (IsReadFault overlay.old.loaded.on_disk fault × (0 < length traces.now)) ⊎
         (stats_answer_of_each overlay.old.volume traces.now ≡ Err fault)) }
+    ensures reads_tell { IfErr result (IsFaultOfReads overlay.old.reads overlay.new.reads) }
     ensures seen { IsSeen overlay.old overlay.new (length traces.now) }
     ensures memory { Rises (IsErrOf result AskFault.OutOfMemory) room.old room.new }
 {
@@ -53,10 +55,11 @@ fn numbers_among(
 ) -> Result<Items<TraceStatistics>, AskFault>
     requires rising { AreRising 1 (count_of overlay.old.volume) traces.now }
     requires whole { has_floats overlay.old.volume.head ≡ false }
-    ensures ok { IfOk result (λ found. IsTrue overlay.new.agreed → found ≡
+    ensures ok { IfOk result (λ found. HaveAgreed overlay.new.reads → found ≡
         map (λ p. trace_statistics p (samples_at overlay.old.volume p)) traces.now) }
     ensures err { IfErr result (λ fault. (fault ≡ no_memory) ⊎
         (IsReadFault overlay.old.loaded.on_disk fault × (0 < length traces.now))) }
+    ensures reads_tell { IfErr result (IsFaultOfReads overlay.old.reads overlay.new.reads) }
     ensures seen { IsSeen overlay.old overlay.new (length traces.now) }
     ensures memory { Rises (IsErrOf result AskFault.OutOfMemory) room.old room.new }
 {
@@ -75,10 +78,11 @@ fn floats_among(
 ) -> Result<Items<FloatTraceStatistics>, AskFault>
     requires rising { AreRising 1 (count_of overlay.old.volume) traces.now }
     requires floats { has_floats overlay.old.volume.head ≡ true }
-    ensures ok { IfOk result (λ found. IsTrue overlay.new.agreed → found ≡
+    ensures ok { IfOk result (λ found. HaveAgreed overlay.new.reads → found ≡
         map (λ p. float_trace_statistics p (samples_at overlay.old.volume p)) traces.now) }
     ensures err { IfErr result (λ fault. (fault ≡ no_memory) ⊎
         (IsReadFault overlay.old.loaded.on_disk fault × (0 < length traces.now))) }
+    ensures reads_tell { IfErr result (IsFaultOfReads overlay.old.reads overlay.new.reads) }
     ensures seen { IsSeen overlay.old overlay.new (length traces.now) }
     ensures memory { Rises (IsErrOf result AskFault.OutOfMemory) room.old room.new }
 {

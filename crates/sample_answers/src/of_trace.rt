@@ -4,6 +4,7 @@ ghost use Rattle.frame_cut.specs.Traces.{is_trace};
 ghost use Rattle.trace_view.specs.Shown.{bytes_of, head_of};
 ghost use Rattle.trace_view.specs.Values.{has_floats, samples_of};
 ghost use Rattle.edit_overlay.specs.CountedVolume.{IsSeen};
+ghost use Rattle.edit_overlay.specs.Reads.{HaveAgreed, IsFaultOfLook};
 ghost use Rattle.bench_rules.specs.SampleStatistics.{float_trace_statistics, is_zero as is_zero_of, samples_at, trace_statistics, zeros_in};
 
 use bench_rules::{FloatTraceStatistics, TraceStatistics, statistics_of_floats};
@@ -18,10 +19,11 @@ pub(crate) fn of_numbers(
 ) -> Result<TraceStatistics, ReadFault>
     requires trace { IsTrue (is_trace overlay.old.volume p) }
     requires whole { has_floats overlay.old.volume.head ≡ false }
-    ensures ok { IfOk result (λ found. IsTrue overlay.new.agreed →
+    ensures ok { IfOk result (λ found. HaveAgreed overlay.new.reads →
         found ≡ trace_statistics p (samples_at overlay.old.volume p)) }
     ensures seen { IsSeen overlay.old overlay.new 1 }
     ensures read { IfErr result (λ _. IsTrue overlay.old.loaded.on_disk) }
+    ensures reads_tell { IfErr result (IsFaultOfLook overlay.old.reads overlay.new.reads) }
 {
     let Some(trace) = overlay.look(p)? else {
         unreachable!()
@@ -36,10 +38,11 @@ pub(crate) fn of_floats(
 ) -> Result<FloatTraceStatistics, ReadFault>
     requires trace { IsTrue (is_trace overlay.old.volume p) }
     requires floats { has_floats overlay.old.volume.head ≡ true }
-    ensures ok { IfOk result (λ found. IsTrue overlay.new.agreed →
+    ensures ok { IfOk result (λ found. HaveAgreed overlay.new.reads →
         found ≡ float_trace_statistics p (samples_at overlay.old.volume p)) }
     ensures seen { IsSeen overlay.old overlay.new 1 }
     ensures read { IfErr result (λ _. IsTrue overlay.old.loaded.on_disk) }
+    ensures reads_tell { IfErr result (IsFaultOfLook overlay.old.reads overlay.new.reads) }
 {
     let Some(trace) = overlay.look(p)? else {
         unreachable!()

@@ -1,7 +1,8 @@
 // A run, and then the end of its save.
-ghost use Rattle.std.specs.Prelude.{◌≡◌, [], true, false, Some, length, IsTrue, IfOk, IfErr, OnErr, IsErrAnd, option_map};
+ghost use Rattle.std.specs.Prelude.{◌≡◌, [], true, false, Some, length, IfOk, IfErr, OnErr, IsErrAnd, option_map};
 ghost use Rattle.room.specs.Refusals.{Rises};
 ghost use Rattle.std.specs.Io.Buffered.{writer_contents};
+ghost use Rattle.edit_overlay.specs.Reads.{HaveAgreed};
 ghost use Rattle.safe_save.specs.Saving.{beside_bytes};
 ghost use Rattle.line_texts.specs.Devices.{device_of};
 ghost use Rattle.script_run.specs.Ends.{devices};
@@ -82,8 +83,8 @@ pub fn run_to_out<R: Read, S: Read, A: Write, F: Folder + Drop>(
 }
 
 /// The same over a file that stays on disk, and has so many bytes, as `run_on_disk` runs it. What
-/// is said of it holds where each later read gave the bytes of the load (`agreed`); of a file that
-/// was not loaded OUT is what it was.
+/// is said of it holds where each later read gave the bytes of the load (`HaveAgreed`); of a file
+/// that was not loaded OUT is what it was.
 pub fn run_on_disk_to_out<S: Read, A: Write, F: Folder + Drop>(
     room: &mut Room,
     file: File,
@@ -95,7 +96,7 @@ pub fn run_on_disk_to_out<S: Read, A: Write, F: Folder + Drop>(
     options: Options,
     notes: &mut Notes,
 ) -> DiskToOut<F>
-    ensures run { IfOk result.run.volume (λ volume. IsTrue volume.agreed →
+    ensures run { IfOk result.run.volume (λ volume. HaveAgreed volume.reads →
         RunsToOut true options mode
         (devices (unread volume.loaded) (device_of S.remaining script.old)
         (device_of A.contents answers.old)
@@ -103,7 +104,7 @@ pub fn run_on_disk_to_out<S: Read, A: Write, F: Folder + Drop>(
         read_whole (device_of S.remaining script.new)
         (device_of A.contents answers.new) room.new result.run.end result.out
         (F.disk result.folder)) }
-    ensures saved { IfOk result.run.volume (λ volume. IsTrue volume.agreed →
+    ensures saved { IfOk result.run.volume (λ volume. HaveAgreed volume.reads →
         writer_contents (option_map beside_bytes) writer ≡ Some [] → result.out ≡ Saved →
         HoldsAll true options mode
         (devices (unread volume.loaded) (device_of S.remaining script.old)

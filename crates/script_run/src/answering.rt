@@ -1,5 +1,6 @@
 // Answers the lines of a session.
-ghost use Rattle.std.specs.Prelude.{◌≡◌, ◌≤◌, ℕ, List, IsTrue, true, false};
+ghost use Rattle.std.specs.Prelude.{◌≡◌, ◌≤◌, ℕ, List, true, false};
+ghost use Rattle.edit_overlay.specs.Reads.{Follow, HaveAgreed};
 ghost use Rattle.room.specs.Refusals.{WasRefused};
 ghost use Rattle.live_volume.specs.Held.{IsReadAs};
 ghost use Rattle.line_texts.specs.Devices.{device_of};
@@ -40,14 +41,14 @@ pub(crate) fn answer_lines<S: Read, A: Write, P: Saves>(
     place: &mut P,
     stop: bool,
 ) -> SessionLines
-    ensures lines { IsTrue bench.new.agreed →
+    ensures lines { HaveAgreed bench.new.reads →
         AnswersTo (WasRefused room.old room.new)
         (standing bench.old.state (P.place place.old bench.old.loaded))
         (standing bench.new.state (P.place place.new bench.new.loaded)) stop
         (device_of S.remaining script.old) (device_of S.remaining script.new)
         (device_of A.contents answers.old) (device_of A.contents answers.new) result }
     ensures same { IsReadAs bench.old.state bench.new.state }
-    ensures agreed { IsTrue bench.new.agreed → IsTrue bench.old.agreed }
+    ensures reads { Follow bench.old.reads bench.new.reads }
     ensures loaded { bench.new.loaded ≡ bench.old.loaded }
     ensures never_falls { room.old ≤ room.new }
 {
@@ -120,7 +121,7 @@ fn answer<A: Write, P: Saves>(
     out: &mut OutBuffer,
     answers: &mut Sink<A>,
 ) -> Result<Told, WriteFault>
-    ensures line { IsTrue bench.new.agreed → (printed : Printed)
+    ensures line { HaveAgreed bench.new.reads → (printed : Printed)
         × ((text : List ℕ) → Holds line.now text →
         (first : ℕ) → first ≤ room.old → IsLostWithCause line.now first room.old →
         SessionStep (WasRefused first room.new)
@@ -130,7 +131,7 @@ fn answer<A: Write, P: Saves>(
         × IsWritten (device_of A.contents answers.old) (device_of A.contents answers.new)
         printed result }
     ensures same { IsReadAs bench.old.state bench.new.state }
-    ensures agreed { IsTrue bench.new.agreed → IsTrue bench.old.agreed }
+    ensures reads { Follow bench.old.reads bench.new.reads }
     ensures loaded { bench.new.loaded ≡ bench.old.loaded }
     ensures never_falls { room.old ≤ room.new }
 {
@@ -146,16 +147,16 @@ fn reply_to<P: Saves>(
     line: &HeldLine,
     has_end: bool,
 ) -> Reply
-    ensures step { IsTrue bench.new.agreed → (printed : Printed) →
+    ensures step { HaveAgreed bench.new.reads → (printed : Printed) →
         Prints bench.new.state result printed → (text : List ℕ) → Holds line.now text →
         (first : ℕ) → first ≤ room.old → IsLostWithCause line.now first room.old →
         AnswerStep (WasRefused first room.new)
         (standing bench.old.state (P.place place.old bench.old.loaded))
         (line_of text has_end)
         printed (standing bench.new.state (P.place place.new bench.new.loaded)) }
-    ensures there { IsTrue bench.new.agreed → HasTraces bench.new.state result }
+    ensures there { HaveAgreed bench.new.reads → HasTraces bench.new.state result }
     ensures same { IsReadAs bench.old.state bench.new.state }
-    ensures agreed { IsTrue bench.new.agreed → IsTrue bench.old.agreed }
+    ensures reads { Follow bench.old.reads bench.new.reads }
     ensures loaded { bench.new.loaded ≡ bench.old.loaded }
     ensures never_falls { room.old ≤ room.new }
 {
@@ -170,14 +171,14 @@ fn reply_to<P: Saves>(
 
 // The reply to a line that was read whole.
 fn reply_to_text<P: Saves>(room: &mut Room, bench: &mut Bench, place: &mut P, line: &[u8]) -> Reply
-    ensures step { IsTrue bench.new.agreed → (printed : Printed) →
+    ensures step { HaveAgreed bench.new.reads → (printed : Printed) →
         Prints bench.new.state result printed →
         WordStep (WasRefused room.old room.new) (session_word_of line.now)
         (standing bench.old.state (P.place place.old bench.old.loaded)) line.now
         printed (standing bench.new.state (P.place place.new bench.new.loaded)) }
-    ensures there { IsTrue bench.new.agreed → HasTraces bench.new.state result }
+    ensures there { HaveAgreed bench.new.reads → HasTraces bench.new.state result }
     ensures same { IsReadAs bench.old.state bench.new.state }
-    ensures agreed { IsTrue bench.new.agreed → IsTrue bench.old.agreed }
+    ensures reads { Follow bench.old.reads bench.new.reads }
     ensures loaded { bench.new.loaded ≡ bench.old.loaded }
     ensures never_falls { room.old ≤ room.new }
 {

@@ -1,5 +1,6 @@
 // Runs behind whose last line FILE itself is repaired.
-ghost use Rattle.std.specs.Prelude.{◌≡◌, ◌≤◌, length, true, false, Err, IsErrAnd, IsTrue, IfOk, IfErr, OnErr, List, ℕ, Bool};
+ghost use Rattle.std.specs.Prelude.{◌≡◌, ◌≤◌, length, true, false, Err, IsErrAnd, IfOk, IfErr, OnErr, List, ℕ, Bool};
+ghost use Rattle.edit_overlay.specs.Reads.{Follow, HaveAgreed};
 ghost use Rattle.room.specs.Refusals.{Rises};
 ghost use Rattle.live_volume.specs.Held.{IsReadAs};
 ghost use Rattle.edit_pieces.specs.declared.repaired.Repaired.TheVariants.{NotBegun};
@@ -110,14 +111,14 @@ fn loaded_in_place<S: Read, A: Write, D: Disk>(
     ensures run { (before after : Device) (refusals : ℕ) → refusals ≤ room.old →
         Loads before after options.reading options.limits bench.old.state.on_disk
         bench.old.state → bench.old.loaded ≡ bytes_of bench.old.state.volume →
-        IsTrue bench.new.agreed → RunsInPlace bench.old.state.on_disk options
+        HaveAgreed bench.new.reads → RunsInPlace bench.old.state.on_disk options
         (reading_devices before (device_of S.remaining script.old)
         (device_of A.contents answers.old) refusals)
         (reading_devices after (device_of S.remaining script.new)
         (device_of A.contents answers.new) room.new)
         result.end result.repaired (D.disk disk.old) (D.disk disk.new) }
     ensures same { IsReadAs bench.old.state bench.new.state }
-    ensures agreed { IsTrue bench.new.agreed → IsTrue bench.old.agreed }
+    ensures reads { Follow bench.old.reads bench.new.reads }
     ensures loaded { bench.new.loaded ≡ bench.old.loaded }
     ensures cause { ComesOfFailure result.repaired (D.failed disk.new) }
     ensures never_falls { room.old ≤ room.new }
@@ -189,7 +190,7 @@ pub fn run_on_disk_in_place<S: Read, A: Write, D: Disk>(
     notes: &mut Notes,
 ) -> DiskRepairRun
     requires piece { length piece.old ≡ PIECE_ROOM }
-    ensures run { IfOk result.volume (λ volume. IsTrue volume.agreed → RunsInPlace true options
+    ensures run { IfOk result.volume (λ volume. HaveAgreed volume.reads → RunsInPlace true options
         (reading_devices (unread volume.loaded) (device_of S.remaining script.old)
         (device_of A.contents answers.old) room.old)
         (reading_devices read_whole (device_of S.remaining script.new)

@@ -1,5 +1,6 @@
 // Runs and sessions over a file that stays on disk.
-ghost use Rattle.std.specs.Prelude.{◌≡◌, List, ℕ, length, true, Err, IsTrue, IfOk, IfErr, OnErr, IsErrAnd};
+ghost use Rattle.std.specs.Prelude.{◌≡◌, List, ℕ, length, true, Err, IfOk, IfErr, OnErr, IsErrAnd};
+ghost use Rattle.edit_overlay.specs.Reads.{HaveAgreed};
 ghost use Rattle.room.specs.Refusals.{Rises};
 ghost use Rattle.field_map.specs.Binding.{geometry_at_load};
 ghost use Rattle.frame_cut.specs.Cuts.{IsCut};
@@ -30,7 +31,7 @@ use std::io::{Read, Write};
 
 /// Runs a script over a file that stays on disk, and has so many bytes: it is read once, from its
 /// front to its end, and then by place where a line looks at a trace, and by the save. Where each
-/// later read gave the bytes of the first pass (`agreed`, which only clauses see), this is what
+/// later read gave the bytes of the first pass (`HaveAgreed`, which only clauses see), this is what
 /// [`run`](crate::run) does with a reader of these bytes (`loaded`), but that a line that looks may
 /// also be E14 or E15, and the save may fail for a read. Whatever the file gives, the call returns.
 /// A refused file: L01 where a read failed or the file has not so many bytes, L02 to L15 or L17 for
@@ -46,7 +47,7 @@ pub fn run_on_disk<S: Read, A: Write, O: Write>(
     options: Options,
     notes: &mut Notes,
 ) -> DiskRun
-    ensures run { IfOk result.volume (λ volume. IsTrue volume.agreed → Runs true options
+    ensures run { IfOk result.volume (λ volume. HaveAgreed volume.reads → Runs true options
         (devices (unread volume.loaded) (device_of S.remaining script.old)
         (device_of A.contents answers.old) (device_of O.contents out.old) room.old)
         (devices read_whole (device_of S.remaining script.new)
@@ -84,7 +85,7 @@ pub fn session_on_disk<S: Read, A: Write, P: Saves>(
     place: &mut P,
     options: Options,
 ) -> DiskRun
-    ensures session { IfOk result.volume (λ volume. IsTrue volume.agreed → Session true options
+    ensures session { IfOk result.volume (λ volume. HaveAgreed volume.reads → Session true options
         (session_devices (unread volume.loaded) (device_of S.remaining script.old)
         (device_of A.contents answers.old) (P.place place.old volume.loaded) room.old)
         (session_devices read_whole (device_of S.remaining script.new)
@@ -127,9 +128,10 @@ pub fn load_on_disk(
     ensures reading { IfOk result (λ bench. bench.state.reading ≡ options.reading) }
     ensures limits { IfOk result (λ bench. bench.state.limits ≡ options.limits) }
     ensures place { IfOk result (λ bench. bench.state.on_disk ≡ true) }
-    ensures agreed { IfOk result (λ bench. IsTrue bench.agreed) }
+    ensures reads { IfOk result (λ bench. HaveAgreed bench.reads) }
     ensures refused { IfErr result (λ refused.
-        IsPassFault size options.reading options.limits refused.read refused.fault) }
+        IsPassFault size options.reading options.limits refused.read refused.failures
+        refused.fault) }
     ensures memory { Rises (IsErrAnd result (λ e. e.fault ≡ LoadFault.OutOfMemory))
         room.old room.new }
 {

@@ -1,5 +1,6 @@
 // Runs the lines of a script over a volume.
 ghost use Rattle.std.specs.Prelude.{◌≡◌, ◌≤◌, ◌++◌, ℕ, length, IsOk, IsTrue, MatchResult, None, Ok};
+ghost use Rattle.edit_overlay.specs.Reads.{Follow, HaveAgreed};
 ghost use Rattle.room.specs.Refusals.{WasRefused};
 ghost use Rattle.frame_cut.specs.Traces.{count_of};
 ghost use Rattle.bench_rules.specs.Conditions.{AreRising};
@@ -39,12 +40,12 @@ pub(crate) fn run_lines<A: Write>(
     notes: &mut Notes,
 ) -> LinesEnd
     requires { length script.now ≤ 16777216 }
-    ensures lines { IsTrue bench.new.agreed →
+    ensures lines { HaveAgreed bench.new.reads →
         RunsLines (WasRefused room.old room.new) bench.old.state bench.new.state script.now stop
         (device_of A.contents answers.old)
         (device_of A.contents answers.new) result }
     ensures same { IsReadAs bench.old.state bench.new.state }
-    ensures agreed { IsTrue bench.new.agreed → IsTrue bench.old.agreed }
+    ensures reads { Follow bench.old.reads bench.new.reads }
     ensures loaded { bench.new.loaded ≡ bench.old.loaded }
     ensures never_falls { room.old ≤ room.new }
 {
@@ -87,11 +88,11 @@ fn answer_line<A: Write>(
 ) -> Result<Told, WriteFault>
     ensures line { let old = device_of A.contents answers.old in
         let new = device_of A.contents answers.new in
-        IsTrue bench.new.agreed → (printed : Printed)
+        HaveAgreed bench.new.reads → (printed : Printed)
         × LineStep (WasRefused room.old room.new) bench.old.state line.now printed bench.new.state
         × IsWritten old new printed result }
     ensures same { IsReadAs bench.old.state bench.new.state }
-    ensures agreed { IsTrue bench.new.agreed → IsTrue bench.old.agreed }
+    ensures reads { Follow bench.old.reads bench.new.reads }
     ensures loaded { bench.new.loaded ≡ bench.old.loaded }
     ensures never_falls { room.old ≤ room.new }
 {
@@ -119,13 +120,13 @@ fn note_broken(notes: &mut Notes, number: u64, line: &[u8], told: &Result<Told, 
 
 /// Runs one line.
 pub(crate) fn run_line(room: &mut Room, bench: &mut Bench, line: &[u8]) -> Reply
-    ensures step { IsTrue bench.new.agreed → (printed : Printed) →
+    ensures step { HaveAgreed bench.new.reads → (printed : Printed) →
         Prints bench.new.state result printed →
         LineStep (WasRefused room.old room.new) bench.old.state line.now printed
         bench.new.state }
-    ensures there { IsTrue bench.new.agreed → HasTraces bench.new.state result }
+    ensures there { HaveAgreed bench.new.reads → HasTraces bench.new.state result }
     ensures same { IsReadAs bench.old.state bench.new.state }
-    ensures agreed { IsTrue bench.new.agreed → IsTrue bench.old.agreed }
+    ensures reads { Follow bench.old.reads bench.new.reads }
     ensures loaded { bench.new.loaded ≡ bench.old.loaded }
     ensures never_falls { room.old ≤ room.new }
 {
@@ -138,13 +139,13 @@ pub(crate) fn run_line(room: &mut Room, bench: &mut Bench, line: &[u8]) -> Reply
 }
 
 fn run_command(room: &mut Room, bench: &mut Bench, command: &Command) -> Reply
-    ensures step { IsTrue bench.new.agreed → (printed : Printed) →
+    ensures step { HaveAgreed bench.new.reads → (printed : Printed) →
         Prints bench.new.state result printed →
         CommandStep (WasRefused room.old room.new) bench.old.state command.now printed
         bench.new.state }
-    ensures there { IsTrue bench.new.agreed → HasTraces bench.new.state result }
+    ensures there { HaveAgreed bench.new.reads → HasTraces bench.new.state result }
     ensures same { IsReadAs bench.old.state bench.new.state }
-    ensures agreed { IsTrue bench.new.agreed → IsTrue bench.old.agreed }
+    ensures reads { Follow bench.old.reads bench.new.reads }
     ensures loaded { bench.new.loaded ≡ bench.old.loaded }
     ensures never_falls { room.old ≤ room.new }
 {
@@ -156,13 +157,13 @@ fn run_command(room: &mut Room, bench: &mut Bench, command: &Command) -> Reply
 
 // The reply to a query. Where it tells of samples that are floats, it has their words.
 fn answered(room: &mut Room, bench: &mut Bench, query: &Query) -> Reply
-    ensures step { IsTrue bench.new.agreed → (printed : Printed) →
+    ensures step { HaveAgreed bench.new.reads → (printed : Printed) →
         Prints bench.new.state result printed →
         CommandStep (WasRefused room.old room.new) bench.old.state (Ask query.now) printed
         bench.new.state }
-    ensures there { IsTrue bench.new.agreed → HasTraces bench.new.state result }
+    ensures there { HaveAgreed bench.new.reads → HasTraces bench.new.state result }
     ensures same { IsReadAs bench.old.state bench.new.state }
-    ensures agreed { IsTrue bench.new.agreed → IsTrue bench.old.agreed }
+    ensures reads { Follow bench.old.reads bench.new.reads }
     ensures loaded { bench.new.loaded ≡ bench.old.loaded }
     ensures never_falls { room.old ≤ room.new }
 {

@@ -1,5 +1,6 @@
 // Where the saves of a session go.
-ghost use Rattle.std.specs.Prelude.{◌≡◌, ◌≤◌, IsTrue, List, ℕ};
+ghost use Rattle.std.specs.Prelude.{◌≡◌, ◌≤◌, List, ℕ};
+ghost use Rattle.edit_overlay.specs.Reads.{Follow, HaveAgreed};
 ghost use Rattle.frame_cut.specs.Volume.{bytes_of};
 ghost use Rattle.script_run.specs.Places.{Place, Elsewhere, Follows, IsSaved};
 
@@ -20,19 +21,19 @@ pub trait Saves {
 
     /// Saves what is held now, at a line `save`: how many bytes, or S07 or S08.
     fn save(&mut self, room: &mut Room, bench: &mut Bench) -> Result<u64, SessionFault>
-        ensures saved { IsTrue bench.new.agreed → IsSaved (place self.old bench.old.loaded)
+        ensures saved { HaveAgreed bench.new.reads → IsSaved (place self.old bench.old.loaded)
             (bytes_of bench.old.state.volume) result (place self.new bench.new.loaded) }
         ensures state { bench.new.state ≡ bench.old.state }
-        ensures agreed { IsTrue bench.new.agreed → IsTrue bench.old.agreed }
+        ensures reads { Follow bench.old.reads bench.new.reads }
         ensures loaded { bench.new.loaded ≡ bench.old.loaded }
         ensures never_falls { room.old ≤ room.new };
 
     /// The same behind the last line.
     fn save_at_end(&mut self, room: &mut Room, bench: &mut Bench) -> Result<u64, SessionFault>
-        ensures saved { IsTrue bench.new.agreed → IsSaved (place self.old bench.old.loaded)
+        ensures saved { HaveAgreed bench.new.reads → IsSaved (place self.old bench.old.loaded)
             (bytes_of bench.old.state.volume) result (place self.new bench.new.loaded) }
         ensures state { bench.new.state ≡ bench.old.state }
-        ensures agreed { IsTrue bench.new.agreed → IsTrue bench.old.agreed }
+        ensures reads { Follow bench.old.reads bench.new.reads }
         ensures loaded { bench.new.loaded ≡ bench.old.loaded }
         ensures never_falls { room.old ≤ room.new };
 }

@@ -1,6 +1,7 @@
 // The saves of a session to OUT.
 ghost use Rattle.std.specs.Prelude.{◌≡◌, ◌≤◌, length, IsTrue};
 ghost use Rattle.std.specs.Io.KnownBytes.{Appends};
+ghost use Rattle.edit_overlay.specs.Reads.{Follow, HaveAgreed};
 ghost use Rattle.frame_cut.specs.Volume.{bytes_of};
 ghost use Rattle.script_run.specs.Places.{SavesElsewhere};
 
@@ -19,10 +20,10 @@ pub(crate) fn save_now<P: SavePlace>(
     bench: &mut Bench,
     place: &mut P,
 ) -> Result<u64, SessionFault>
-    ensures saved { IsTrue bench.new.agreed → SavesElsewhere (P.stands place.old)
+    ensures saved { HaveAgreed bench.new.reads → SavesElsewhere (P.stands place.old)
         (bytes_of bench.old.state.volume) result (P.stands place.new) }
     ensures state { bench.new.state ≡ bench.old.state }
-    ensures agreed { IsTrue bench.new.agreed → IsTrue bench.old.agreed }
+    ensures reads { Follow bench.old.reads bench.new.reads }
     ensures loaded { bench.new.loaded ≡ bench.old.loaded }
     ensures never_falls { room.old ≤ room.new }
 {
@@ -44,11 +45,11 @@ pub(crate) fn save_now<P: SavePlace>(
 
 // Writes the volume; whether all of it.
 fn is_written<W: Write>(bench: &mut Bench, out: &mut Sink<W>) -> bool
-    ensures whole { IsTrue bench.new.agreed → IsTrue result →
+    ensures whole { HaveAgreed bench.new.reads → IsTrue result →
         Appends (W.contents out.old.inner) (W.contents out.new.inner)
         (bytes_of bench.old.state.volume) }
     ensures state { bench.new.state ≡ bench.old.state }
-    ensures agreed { IsTrue bench.new.agreed → IsTrue bench.old.agreed }
+    ensures reads { Follow bench.old.reads bench.new.reads }
     ensures loaded { bench.new.loaded ≡ bench.old.loaded }
 {
     match bench.save(out) {
@@ -59,10 +60,10 @@ fn is_written<W: Write>(bench: &mut Bench, out: &mut Sink<W>) -> bool
 
 // How many bytes the volume has.
 fn count_bytes(room: &mut Room, bench: &mut Bench) -> u64
-    ensures number { IsTrue bench.new.agreed →
+    ensures number { HaveAgreed bench.new.reads →
         result ≡ length (bytes_of bench.old.state.volume) }
     ensures state { bench.new.state ≡ bench.old.state }
-    ensures agreed { IsTrue bench.new.agreed → IsTrue bench.old.agreed }
+    ensures reads { Follow bench.old.reads bench.new.reads }
     ensures loaded { bench.new.loaded ≡ bench.old.loaded }
     ensures never_falls { room.old ≤ room.new }
 {

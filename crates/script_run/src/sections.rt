@@ -1,5 +1,6 @@
 // Writes samples of many traces, each trace while it is looked at.
-ghost use Rattle.std.specs.Prelude.{◌≡◌, ◌<◌, ◌^◌, IsTrue};
+ghost use Rattle.std.specs.Prelude.{◌≡◌, ◌<◌, ◌^◌};
+ghost use Rattle.edit_overlay.specs.Reads.{Follow, HaveAgreed};
 ghost use Rattle.line_texts.specs.Devices.{device_of};
 ghost use Rattle.script_text.specs.Replies.{Printed};
 ghost use Rattle.bench_rules.specs.Conditions.{AreRising};
@@ -27,13 +28,13 @@ pub(crate) fn write_section<A: Write>(
     section: &Section,
     behind: &[u8],
 ) -> Result<Told, WriteFault>
-    ensures written { IsTrue bench.new.agreed →
+    ensures written { HaveAgreed bench.new.reads →
         AreRising 1 (count_of bench.old.state.volume) section.now.traces → (printed : Printed)
         × IsSectionPrinted bench.old.state section.now printed
         × IsWritten (device_of A.contents answers.old) (device_of A.contents answers.new)
         (followed_by behind.now printed) result }
     ensures state { bench.new.state ≡ bench.old.state }
-    ensures agreed { IsTrue bench.new.agreed → IsTrue bench.old.agreed }
+    ensures reads { Follow bench.old.reads bench.new.reads }
     ensures loaded { bench.new.loaded ≡ bench.old.loaded }
 {
     out.begin();
@@ -58,11 +59,11 @@ fn push_rows<A: Write>(
     section: &Section,
 ) -> Result<Option<AskFault>, WriteFault>
     requires { out.old.written < 2 ^ 64 }
-    ensures rows { IsTrue bench.new.agreed → AreRowsOut bench.old.state section.now
+    ensures rows { HaveAgreed bench.new.reads → AreRowsOut bench.old.state section.now
         (device_of A.contents answers.old) (device_of A.contents answers.new)
         out.old out.new result }
     ensures state { bench.new.state ≡ bench.old.state }
-    ensures agreed { IsTrue bench.new.agreed → IsTrue bench.old.agreed }
+    ensures reads { Follow bench.old.reads bench.new.reads }
     ensures loaded { bench.new.loaded ≡ bench.old.loaded }
 {
     let floats = bench.float_format();
@@ -84,11 +85,11 @@ fn push_row<A: Write>(
     p: u32,
     range: SampleRange,
 ) -> Result<Option<AskFault>, WriteFault>
-    ensures row { IsTrue bench.new.agreed → IsRowOut bench.old.state floats range p
+    ensures row { HaveAgreed bench.new.reads → IsRowOut bench.old.state floats range p
         (device_of A.contents answers.old) (device_of A.contents answers.new)
         out.old out.new result }
     ensures state { bench.new.state ≡ bench.old.state }
-    ensures agreed { IsTrue bench.new.agreed → IsTrue bench.old.agreed }
+    ensures reads { Follow bench.old.reads bench.new.reads }
     ensures loaded { bench.new.loaded ≡ bench.old.loaded }
 {
     let count = bench.volume().count();

@@ -1,5 +1,6 @@
 // Writes the reply to a line.
-ghost use Rattle.std.specs.Prelude.{◌≡◌, IsTrue};
+ghost use Rattle.std.specs.Prelude.{◌≡◌};
+ghost use Rattle.edit_overlay.specs.Reads.{Follow, HaveAgreed};
 ghost use Rattle.live_volume.specs.Held.{IsReadAs};
 ghost use Rattle.line_texts.specs.Devices.{device_of};
 ghost use Rattle.script_text.specs.Held.{printed_of};
@@ -35,13 +36,13 @@ pub(crate) fn write_reply<A: Write>(
     reply: &Reply,
     behind: &[u8],
 ) -> Result<Told, WriteFault>
-    ensures written { IsTrue bench.new.agreed → HasTraces bench.old.state reply.now →
+    ensures written { HaveAgreed bench.new.reads → HasTraces bench.old.state reply.now →
         (printed : Printed)
         × Prints bench.old.state reply.now printed
         × IsWritten (device_of A.contents answers.old) (device_of A.contents answers.new)
         (followed_by behind.now printed) result }
     ensures state { bench.new.state ≡ bench.old.state }
-    ensures agreed { IsTrue bench.new.agreed → IsTrue bench.old.agreed }
+    ensures reads { Follow bench.old.reads bench.new.reads }
     ensures loaded { bench.new.loaded ≡ bench.old.loaded }
 {
     match reply {

@@ -1,5 +1,6 @@
 // Runs a script over a volume.
-ghost use Rattle.std.specs.Prelude.{◌≡◌, ◌≤◌, ℕ, length, true, false, IsErrOf, IsTrue, IfOk, IfErr, MatchResult};
+ghost use Rattle.std.specs.Prelude.{◌≡◌, ◌≤◌, ℕ, length, true, false, IsErrOf, IfOk, IfErr, MatchResult};
+ghost use Rattle.edit_overlay.specs.Reads.{Follow, HaveAgreed};
 ghost use Rattle.room.specs.Refusals.{Rises};
 ghost use Rattle.live_volume.specs.Held.{IsReadAs};
 ghost use Rattle.frame_cut.specs.Volume.{bytes_of};
@@ -80,14 +81,14 @@ pub fn run_loaded<S: Read, A: Write, O: Write>(
 ) -> RunEnd
     ensures run { (before after : Device) (refusals : ℕ) → refusals ≤ room.old →
         Loads before after options.reading options.limits bench.old.state.on_disk
-        bench.old.state → IsTrue bench.new.agreed → Runs bench.old.state.on_disk options
+        bench.old.state → HaveAgreed bench.new.reads → Runs bench.old.state.on_disk options
         (devices before (device_of S.remaining script.old)
         (device_of A.contents answers.old) (device_of O.contents out.old) refusals)
         (devices after (device_of S.remaining script.new)
         (device_of A.contents answers.new) (device_of O.contents out.new) room.new)
         result }
     ensures same { IsReadAs bench.old.state bench.new.state }
-    ensures agreed { IsTrue bench.new.agreed → IsTrue bench.old.agreed }
+    ensures reads { Follow bench.old.reads bench.new.reads }
     ensures loaded { bench.new.loaded ≡ bench.old.loaded }
     ensures never_falls { room.old ≤ room.new }
 {
@@ -128,12 +129,12 @@ pub(crate) fn load<R: Read>(
 fn save<O: Write>(bench: &mut Bench, out: &mut Sink<O>) -> Result<(), SaveFault>
     ensures saved { let old = device_of O.contents out.old in
         let new = device_of O.contents out.new in
-        IsTrue bench.new.agreed →
+        HaveAgreed bench.new.reads →
         MatchResult result (λ _. Takes old new (bytes_of bench.old.state.volume))
         (λ fault. SavesPart bench.old.state.on_disk old new (bytes_of bench.old.state.volume)
         fault) }
     ensures state { bench.new.state ≡ bench.old.state }
-    ensures agreed { IsTrue bench.new.agreed → IsTrue bench.old.agreed }
+    ensures reads { Follow bench.old.reads bench.new.reads }
     ensures loaded { bench.new.loaded ≡ bench.old.loaded }
 {
     bench.save(out)

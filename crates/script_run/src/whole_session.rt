@@ -1,5 +1,6 @@
 // A session over a volume: a line is read, answered, and only then the next one read.
-ghost use Rattle.std.specs.Prelude.{◌≡◌, ◌≤◌, ◌&&◌, not, false, IsTrue, ℕ, List};
+ghost use Rattle.std.specs.Prelude.{◌≡◌, ◌≤◌, ◌&&◌, not, false, ℕ, List};
+ghost use Rattle.edit_overlay.specs.Reads.{Follow, HaveAgreed};
 ghost use Rattle.frame_cut.specs.Volume.{bytes_of};
 ghost use Rattle.live_volume.specs.Held.{IsReadAs};
 ghost use Rattle.line_texts.specs.Devices.{Device, device_of};
@@ -79,14 +80,14 @@ pub fn session_loaded<S: Read, A: Write, P: Saves>(
     ensures session { (before after : Device) (refusals : ℕ) → refusals ≤ room.old →
         Loads before after options.reading options.limits bench.old.state.on_disk
         bench.old.state → bench.old.loaded ≡ bytes_of bench.old.state.volume →
-        IsTrue bench.new.agreed → Session bench.old.state.on_disk options
+        HaveAgreed bench.new.reads → Session bench.old.state.on_disk options
         (session_devices before (device_of S.remaining script.old)
         (device_of A.contents answers.old) (P.place place.old bench.old.loaded) refusals)
         (session_devices after (device_of S.remaining script.new)
         (device_of A.contents answers.new) (P.place place.new bench.new.loaded) room.new)
         result }
     ensures same { IsReadAs bench.old.state bench.new.state }
-    ensures agreed { IsTrue bench.new.agreed → IsTrue bench.old.agreed }
+    ensures reads { Follow bench.old.reads bench.new.reads }
     ensures loaded { bench.new.loaded ≡ bench.old.loaded }
     ensures never_falls { room.old ≤ room.new }
 {

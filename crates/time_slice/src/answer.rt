@@ -1,10 +1,12 @@
 // The answer to a query for a slice.
-ghost use Rattle.std.specs.Prelude.{◌≡◌, IsTrue, map, IsErrOf};
+ghost use Rattle.std.specs.Prelude.{◌≡◌, map, IfErr, IsErrOf};
 ghost use Rattle.room.specs.Refusals.{Rises};
 ghost use Rattle.sample_codes.specs.Formats.{values};
 ghost use Rattle.frame_cut.specs.Traces.{count_of};
 ghost use Rattle.trace_record.specs.Packed.{record_in};
 ghost use Rattle.edit_overlay.specs.CountedVolume.{IsSeen};
+ghost use Rattle.edit_overlay.specs.Reads.{HaveAgreed};
+ghost use Rattle.bench_rules.specs.ReadFaults.{IsFaultOfReads};
 ghost use Rattle.bench_rules.specs.declared.query.Query.TheVariants as queries;
 ghost use Rattle.bench_rules.specs.Answer.{IsReply};
 ghost use Rattle.bench_rules.specs.Looks.{value_looks};
@@ -26,11 +28,12 @@ pub fn slice_answer(
     k: u32,
 ) -> Result<Answer, AskFault>
     ensures reply { (s : State) → s.volume ≡ overlay.old.volume →
-        s.on_disk ≡ overlay.old.loaded.on_disk → IsTrue overlay.new.agreed →
+        s.on_disk ≡ overlay.old.loaded.on_disk → HaveAgreed overlay.new.reads →
         AreRecordsOf s (map record_in overlay.old.payloads) →
         IsReply s (queries.Slice k) result }
     ensures seen { IsSeen overlay.old overlay.new
         (value_looks (values overlay.old.volume.head.format) (count_of overlay.old.volume)) }
+    ensures reads_tell { IfErr result (IsFaultOfReads overlay.old.reads overlay.new.reads) }
     ensures memory { Rises (IsErrOf result AskFault.OutOfMemory) room.old room.new }
 {
     if has_opaque_samples(overlay) {

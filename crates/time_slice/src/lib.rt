@@ -8,8 +8,8 @@
 //! for a slice. The calls that are named for a law do nothing: their contract is the law.
 //!
 //! The rows of a slice are claimed where each read since the load gave the bytes that the load read
-//! (`agreed`). That each sample is one of the format's, and which slices are kept, is claimed in
-//! any case.
+//! (`HaveAgreed`). That each sample is one of the format's, and which slices are kept, is claimed
+//! in any case.
 #![tactic(auto)]
 
 mod answer;

@@ -6,7 +6,8 @@ ghost use Rattle.trace_view.specs.Shown.{head_of, bytes_of};
 ghost use Rattle.trace_view.specs.Values.{sample_of};
 ghost use Rattle.trace_record.specs.Packed.{record_in};
 ghost use Rattle.edit_overlay.specs.CountedVolume.{after_look, IsSeen};
-ghost use Rattle.time_slice.specs.Faults.{IsOfRead};
+ghost use Rattle.edit_overlay.specs.Reads.{Follow, HaveAgreed, IsFaultOfLook};
+ghost use Rattle.time_slice.specs.Faults.{IsFaultOfSlice, IsOfRead};
 ghost use Rattle.time_slice.specs.Fitting.{value_fits};
 ghost use Rattle.time_slice.specs.Shown.{row_at};
 ghost use Rattle.bench_rules.specs.SlicesOfRecords.{with_sample_of};
@@ -34,7 +35,7 @@ pub fn rows(
     overlay: &mut Overlay<PackedRecord>,
     k: u32,
 ) -> Result<Vec<Row>, SliceFault>
-    ensures rows { IfOk result (λ v. IsTrue overlay.new.agreed → v.items ≡ slice_rows
+    ensures rows { IfOk result (λ v. HaveAgreed overlay.new.reads → v.items ≡ slice_rows
         (with_sample_of overlay.old.volume.head k (map record_in overlay.old.payloads)
         overlay.old.volume.traces)) }
     ensures fits { IfOk result (λ v.
@@ -42,6 +43,7 @@ pub fn rows(
     ensures seen { IsSeen overlay.old overlay.new (count_of overlay.old.volume) }
     ensures read { IfErr result (λ fault. IsOfRead fault → IsTrue overlay.old.loaded.on_disk
         × (0 < count_of overlay.old.volume)) }
+    ensures reads_tell { IfErr result (IsFaultOfSlice overlay.old.reads overlay.new.reads) }
     ensures memory { Rises (IsErrOf result SliceFault.OutOfMemory) room.old room.new }
 {
     let mut rows = rows_in_place(room, overlay, k)?;
@@ -55,7 +57,7 @@ fn rows_in_place(
     overlay: &mut Overlay<PackedRecord>,
     k: u32,
 ) -> Result<Vec<Row>, SliceFault>
-    ensures rows { IfOk result (λ v. IsTrue overlay.new.agreed → v.items ≡ rows_from 1
+    ensures rows { IfOk result (λ v. HaveAgreed overlay.new.reads → v.items ≡ rows_from 1
         (with_sample_of overlay.old.volume.head k (map record_in overlay.old.payloads)
         overlay.old.volume.traces)) }
     ensures fits { IfOk result (λ v.
@@ -63,6 +65,7 @@ fn rows_in_place(
     ensures seen { IsSeen overlay.old overlay.new (count_of overlay.old.volume) }
     ensures read { IfErr result (λ fault. IsOfRead fault → IsTrue overlay.old.loaded.on_disk
         × (0 < count_of overlay.old.volume)) }
+    ensures reads_tell { IfErr result (IsFaultOfSlice overlay.old.reads overlay.new.reads) }
     ensures memory { Rises (IsErrOf result SliceFault.OutOfMemory) room.old room.new }
 {
     // Room for all at once: a list that grows is copied again and again, each time to fresh memory.
@@ -83,13 +86,14 @@ fn rows_in_place(
 #[inline]
 fn sample_in(overlay: &mut Overlay<PackedRecord>, p: u32, k: u32) -> Result<Option<i128>, ReadFault>
     requires { IsTrue (is_trace overlay.old.volume p) }
-    ensures sample { IfOk result (λ sample. IsTrue overlay.new.agreed →
+    ensures sample { IfOk result (λ sample. HaveAgreed overlay.new.reads →
         sample ≡ sample_of overlay.old.volume.head (trace_at overlay.old.volume p) k) }
     ensures fits { IfOk result (λ sample.
         IfSome sample (λ v. IsTrue (value_fits overlay.old.volume.head.format v))) }
-    ensures looked { overlay.new ≡ after_look overlay.old overlay.new.agreed }
-    ensures agreed { IsTrue overlay.new.agreed → IsTrue overlay.old.agreed }
+    ensures looked { overlay.new ≡ after_look overlay.old overlay.new.reads }
+    ensures reads { Follow overlay.old.reads overlay.new.reads }
     ensures read { IfErr result (λ _. IsTrue overlay.old.loaded.on_disk) }
+    ensures reads_tell { IfErr result (IsFaultOfLook overlay.old.reads overlay.new.reads) }
 {
     let Some(trace) = overlay.look(p)? else {
         unreachable!()

@@ -4,8 +4,9 @@ ghost use Rattle.frame_cut.specs.Traces.{count_of};
 ghost use Rattle.trace_record.specs.Facts.{facts_of};
 ghost use Rattle.trace_record.specs.Packed.{record_in};
 ghost use Rattle.edit_overlay.specs.CountedVolume.{IsSeen};
+ghost use Rattle.edit_overlay.specs.Reads.{HaveAgreed};
 ghost use Rattle.lru.specs.LruCache.{lru_cache};
-ghost use Rattle.time_slice.specs.Faults.{IsOfRead};
+ghost use Rattle.time_slice.specs.Faults.{IsFaultOfSlice, IsOfRead};
 ghost use Rattle.time_slice.specs.Fitting.{value_fits};
 ghost use Rattle.bench_rules.specs.SlicesOfRecords.{with_sample_of};
 ghost use Rattle.bench_rules.specs.Slices.{slice_rows};
@@ -75,12 +76,12 @@ impl SliceCache {
         overlay: &mut Overlay<PackedRecord>,
         k: u32,
     ) -> Result<Vec<Row>, SliceFault>
-        requires { IsTrue overlay.old.agreed → AreRightOf overlay.old.volume.head
+        requires { HaveAgreed overlay.old.reads → AreRightOf overlay.old.volume.head
             (map record_in overlay.old.payloads) overlay.old.volume.traces self.old.entries }
-        ensures rows { IfOk result (λ v. IsTrue overlay.new.agreed → v.items ≡ slice_rows
+        ensures rows { IfOk result (λ v. HaveAgreed overlay.new.reads → v.items ≡ slice_rows
             (with_sample_of overlay.old.volume.head k (map record_in overlay.old.payloads)
             overlay.old.volume.traces)) }
-        ensures ok { IfOk result (λ v. IsTrue overlay.new.agreed →
+        ensures ok { IfOk result (λ v. HaveAgreed overlay.new.reads →
             self.new ≡ after_slice self.old k v.items) }
         ensures asked { IfOk result (λ v. IsAsked self.old self.new k v.items) }
         ensures err { OnErr result (self.new ≡ self.old) }
@@ -88,6 +89,7 @@ impl SliceCache {
             (if keeps k self.old.entries then 0 else count_of overlay.old.volume) }
         ensures read { IfErr result (λ fault. IsOfRead fault → IsTrue overlay.old.loaded.on_disk
             × (0 < count_of overlay.old.volume) × IsFalse (keeps k self.old.entries)) }
+        ensures reads_tell { IfErr result (IsFaultOfSlice overlay.old.reads overlay.new.reads) }
         ensures memory { Rises (IsErrOf result SliceFault.OutOfMemory) room.old room.new }
     {
         if self.cached(k) {

@@ -15,9 +15,9 @@ use std::marker::Model;
 ///
 /// For each group of 16 chunks it keeps how many ids stand in front. `get` finds the group, in two
 /// steps where ids were put behind all others alone, else by halves, and then passes over its
-/// chunks: a number of steps that grows with the logarithm of the chunks. In front of the first
-/// chunk that holds another number of ids than those of a load it finds an id in one step. A chunk
-/// that a removal empties is kept as a spare one.
+/// chunks: a number of steps that grows with the logarithm of the chunks. Among the first chunks,
+/// as far as each held as many ids as those of a load when chunks were last counted anew, it finds
+/// an id in one step. A chunk that a removal empties is kept as a spare one.
 #[derive(Drop)]
 pub struct ChunkSeq {
     chunks: CountedChunks,

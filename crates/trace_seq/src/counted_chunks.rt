@@ -24,7 +24,7 @@ pub struct CountedChunks {
 }
 
 impl CountedChunks {
-    /// Counts anew what stands in front of each group.
+    /// Counts anew what stands in front of each group, and how many chunks are even.
     fn recount(&mut self)
         requires whole { IsWhole self.old.list }
         requires room { chunk_count self.old.list ≤ vec_capacity self.old.fronts }

@@ -42,9 +42,10 @@ pub fn even_then(even: usize, chunks: usize, chunks_then: usize, ids: usize) -> 
     ensures { (result ≡ 0) ⊎ ((result ≤ even) × (result < chunks_then)) ⊎
         ((result ≡ chunks) × (chunks < chunks_then) × (even + 1 ≡ chunks) × (ids ≡ 384 * chunks)) }
 {
-    let is_full = chunks > 0 && even == chunks - 1 && ids % FILL == 0 && ids / FILL == chunks;
-    if is_full && chunks < chunks_then {
+    let was_full = chunks > 0 && even == chunks - 1 && ids % FILL == 0 && ids / FILL == chunks;
+    if was_full && chunks < chunks_then {
         return chunks;
     }
+    // No caller has fewer chunks than were even: none would be known as even then.
     if even < chunks_then { even } else { 0 }
 }

@@ -1,9 +1,11 @@
 -- A store whose loaded bytes have been read again: they stand as before, or have fallen.
 use Rattle.std.proofs.Common.{◌≡◌, ℕ, List, length, refl, sym, ap, subst, arith, Option, Some, None}
-use Rattle.std.specs.Prelude.{IsSomeAnd}
+use Rattle.std.specs.Prelude.{IsSomeAnd, IfErr, Result, Ok, Err}
 use Rattle.slab.specs.Slab.{Slab, get}
-use Rattle.base_file.specs.HeldBytes.{HeldBytes, IsStill}
-use Rattle.base_file.proofs.HeldLemmas.{sure_before}
+use Rattle.base_file.specs.HeldBytes.{HeldBytes, IsStill, IsSure}
+use Rattle.base_file.specs.declared.read_fault.ReadFault.{ReadFault}
+use Rattle.base_file.specs.declared.read_fault.ReadFault.TheVariants.{ReadFailed, Changed, TooLarge}
+use Rattle.base_file.proofs.HeldLemmas.{on_disk_before, sure_before}
 use Rattle.frame_cut.specs.declared.file_head.Head.{Head}
 use Rattle.frame_cut.specs.Cuts.{IsTrace}
 use Rattle.trace_seq.specs.Order.{ChunkOrder}
@@ -12,14 +14,30 @@ use Rattle.trace_store.specs.declared.prepared.Prepared.{Prepared}
 use Rattle.trace_store.specs.declared.slot.Slot.{Slot}
 use Rattle.trace_store.specs.declared.store.TraceStore.{TraceStore}
 use Rattle.trace_store.specs.Ahead.{IsReady}
-use Rattle.trace_store.specs.Slots.{base_of, bytes_in, AreHeld, IsHeldUnder, IsInside, IsSlot, IsStore}
+use Rattle.trace_store.specs.declared.base.Base.{Base}
+use Rattle.trace_store.specs.declared.base.Base.TheVariants.{Loaded, Added}
+use Rattle.trace_store.specs.Faults.{IsFaultOfFetch, IsFaultOfTrace}
+use Rattle.trace_store.specs.Slots.{base_of, bytes_in, AreHeld, HasRoomFor, IsHeldUnder, IsInside, IsSlot, IsStore}
 use Rattle.trace_store.proofs.AheadLemmas.{IsSame, ready_kept}
+
+-- a look at a trace that is whole, if the bytes are sure, was refused where a read failed, or they are not sure
+pub look_fault : {T Whole : Type 0} (result : Result T ReadFault) (before now : HeldBytes) → (IsSure now.standing → Whole) → IfErr result (IsFaultOfTrace Whole before now) → IfErr result (IsFaultOfFetch before now)
+look_fault (Ok x) before now whole fault = tt
+look_fault (Err ReadFailed) before now whole fault = fault
+look_fault (Err TooLarge) before now whole fault = fault
+look_fault (Err Changed) before now whole fault = λ sure. fault sure (whole sure)
+
+-- there is room as before
+room_falls : (old new : HeldBytes) (base : Base) → IsStill old new → HasRoomFor old base → HasRoomFor new base
+room_falls old new (Loaded extent) still room = λ disk. omega (arith, still.most, room (on_disk_before old.standing new.standing still.standing disk))
+room_falls old new (Added bytes) still room = tt
 
 module _ {T : Type 0} where
   -- a slot lies over them as before
   pub slot_falls : (old new : HeldBytes) (h : Head) (slot : Slot T) → IsStill old new → IsSlot old h slot → IsSlot new h slot
   slot_falls old new h slot still sound = record {
     inside = subst (λ (bytes : List ℕ). IsInside bytes slot.layers.base) (sym still.bytes) sound.inside;
+    room = room_falls old new slot.layers.base still sound.room;
     fit = subst (λ (bytes : List ℕ). Fit slot.layers.runs (length (base_of bytes slot.layers.base))) (sym still.bytes) sound.fit;
     whole = λ sure. subst (λ (bytes : List ℕ). IsTrace h (bytes_in bytes slot)) (sym still.bytes) (sound.whole (sure_before old.standing new.standing still.standing sure));
   }

@@ -56,7 +56,7 @@ module _ {T : Type 0} (s : TraceStore T) (p id : ℕ) (slot : Slot T) (at : id_a
   laid-fit (Some runs) sound may = subst (λ (n : ℕ). Fit runs n) (ap length (base-at s.loaded.bytes s.order.ids s.slots p id slot at found) ∙ base-length s.loaded.bytes slot.layers.base sound.inside) may.fit
 
   -- and show a whole trace, if the loaded bytes are sure
-  laid-whole : (laid : Option (List Run)) → IsSlot s.loaded s.head slot → MayLie s p laid → IsSure s.loaded.standing → IsTrace s.head (bytes_with_runs (base_of s.loaded.bytes slot.layers.base) (unwrap_or laid slot.layers.runs))
+  pub laid-whole : (laid : Option (List Run)) → IsSlot s.loaded s.head slot → MayLie s p laid → IsSure s.loaded.standing → IsTrace s.head (bytes_with_runs (base_of s.loaded.bytes slot.layers.base) (unwrap_or laid slot.layers.runs))
   laid-whole None sound may sure = sound.whole sure
   laid-whole (Some runs) sound may sure = subst (λ (b : List ℕ). IsTrace s.head (bytes_with_runs b runs)) (base-at s.loaded.bytes s.order.ids s.slots p id slot at found) (may.whole sure)
 

@@ -19,7 +19,7 @@ use Rattle.trace_store.specs.declared.base.Base.{Base}
 use Rattle.trace_store.specs.declared.base.Base.TheVariants.{Loaded, Added}
 use Rattle.trace_store.specs.declared.slot.Slot.{Slot}
 use Rattle.trace_store.specs.Layers.{Layered}
-use Rattle.trace_store.specs.Slots.{base_of, base_under, bytes_in, bytes_under, AreHeld, IsHeldUnder, IsInside, IsSlot, size_of}
+use Rattle.trace_store.specs.Slots.{base_of, base_under, bytes_in, bytes_under, AreHeld, HasRoomFor, IsHeldUnder, IsInside, IsSlot, size_of}
 use Rattle.trace_store.proofs.OrderLemmas.{place-of, held-at_place, map-alike, map-others, map-changed, map-insert, map-remove, map-at}
 
 -- ---- a slot
@@ -36,13 +36,14 @@ module _ {T : Type 0} where
     pub shows : bytes_in file.bytes slot ≡ base_of file.bytes base
 
 module _ {T : Type 0} where
-  pub fresh-slot : (file : HeldBytes) (h : Head) (slot : Slot T) (base : Base) → slot.layers ≡ record { base = base; runs = [] } → IsInside file.bytes base → IsTrace h (base_of file.bytes base) → IsFreshSlot file h slot base
-  fresh-slot file h slot base e inside whole =
+  pub fresh-slot : (file : HeldBytes) (h : Head) (slot : Slot T) (base : Base) → slot.layers ≡ record { base = base; runs = [] } → IsInside file.bytes base → HasRoomFor file base → IsTrace h (base_of file.bytes base) → IsFreshSlot file h slot base
+  fresh-slot file h slot base e inside room whole =
       let shown : bytes_in file.bytes slot ≡ base_of file.bytes base = ap (λ (l : Layered). bytes_with_runs (base_of file.bytes l.base) l.runs) e in
       let empty : Fit [] (length (base_of file.bytes base)) = omega arith in
       record {
         sound = record {
           inside = subst (λ (l : Layered). IsInside file.bytes l.base) (sym e) inside;
+          room = subst (λ (l : Layered). HasRoomFor file l.base) (sym e) room;
           fit = subst (λ (l : Layered). Fit l.runs (length (base_of file.bytes l.base))) (sym e) empty;
           whole = λ _. subst (λ (t : List ℕ). IsTrace h t) (sym shown) whole;
         };
@@ -156,6 +157,7 @@ module _ {T : Type 0} where
       let same : base ≡ base_of file.bytes new.layers.base = is ∙ ap (base_of file.bytes) (sym b) in
       record {
         inside = subst (λ (x : Base). IsInside file.bytes x) (sym b) whole.inside;
+        room = subst (λ (x : Base). HasRoomFor file x) (sym b) whole.room;
         fit = subst (λ (xs : List ℕ). Fit new.layers.runs (length xs)) same fit;
         whole = λ sure. subst (λ (xs : List ℕ). IsTrace h (bytes_with_runs xs new.layers.runs)) same (trace sure);
       }

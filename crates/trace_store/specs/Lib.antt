@@ -12,5 +12,6 @@ pub mod OneProof
 pub mod Shown
 pub mod Examples
 pub mod Grown
+pub mod Faults
 pub mod WindowIn
 pub mod Windows

@@ -10,11 +10,15 @@ use Rattle.trace_view.specs.Runs.{FitFrom-prop}
 use Rattle.trace_store.specs.declared.base.Base.{Base}
 use Rattle.trace_store.specs.declared.base.Base.TheVariants.{Loaded, Added}
 use Rattle.trace_store.specs.declared.slot.Slot.{Slot}
-use Rattle.trace_store.specs.Slots.{base_of, bytes_in, IsInside, IsSlot, IsStore}
+use Rattle.trace_store.specs.Slots.{base_of, bytes_in, HasRoomFor, IsInside, IsSlot, IsStore}
 
 IsInside-prop : (loaded : List ℕ) (base : Base) → IsProp (IsInside loaded base)
 IsInside-prop loaded (Loaded extent) = le_prop
 IsInside-prop loaded (Added bytes) = Unit-prop
+
+HasRoomFor-prop : (loaded : HeldBytes) (base : Base) → IsProp (HasRoomFor loaded base)
+HasRoomFor-prop loaded (Loaded extent) = Π_prop (λ _. le_prop)
+HasRoomFor-prop loaded (Added bytes) = Unit-prop
 
 IsTrace-prop : (h : Head) (t : List ℕ) → IsProp (IsTrace h t)
 IsTrace-prop h t = λ a b i. record {
@@ -25,6 +29,7 @@ IsTrace-prop h t = λ a b i. record {
 IsSlot-prop : {T : Type 0} (loaded : HeldBytes) (h : Head) (slot : Slot T) → IsProp (IsSlot loaded h slot)
 IsSlot-prop loaded h slot = λ a b i. record {
   inside = IsInside-prop loaded.bytes slot.layers.base a.inside b.inside i;
+  room = HasRoomFor-prop loaded slot.layers.base a.room b.room i;
   fit = FitFrom-prop 0 slot.layers.runs (length (base_of loaded.bytes slot.layers.base)) a.fit b.fit i;
   whole = Π_prop (λ _. IsTrace-prop h (bytes_in loaded.bytes slot)) a.whole b.whole i;
 }

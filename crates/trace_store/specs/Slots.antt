@@ -2,7 +2,7 @@
 use Rattle.std.specs.Prelude.{ℕ, ◌≡◌, ◌+◌, ◌<◌, ◌≤◌, ◌^◌, List, [], length, IsSomeAnd}
 use Rattle.std.specs.Option.{option_map_or}
 use Rattle.slab.specs.Slab.{Slab, get, slab_len}
-use Rattle.base_file.specs.HeldBytes.{HeldBytes, IsSure}
+use Rattle.base_file.specs.HeldBytes.{HeldBytes, IsOnDisk, IsSure}
 use Rattle.frame_cut.specs.declared.extent.Extent.{Extent}
 use Rattle.frame_cut.specs.declared.file_head.Head.{Head}
 use Rattle.frame_cut.specs.Cuts.{IsTrace}
@@ -29,13 +29,19 @@ abbrev pub IsInside : List ℕ → Base → Type 0
 IsInside loaded (Loaded extent) = extent.start + extent.length ≤ length loaded
 IsInside loaded (Added bytes) = Unit {0}
 
+-- the part can be read at once: on disk there is room for it, once the pass over the file has ended
+abbrev pub HasRoomFor : HeldBytes → Base → Type 0
+HasRoomFor loaded (Loaded extent) = IsOnDisk loaded.standing → extent.length ≤ loaded.most
+HasRoomFor loaded (Added bytes) = Unit {0}
+
 -- the bytes of a slot's trace
 abbrev pub bytes_in : {T : Type 0} → List ℕ → Slot T → List ℕ
 bytes_in loaded slot = bytes_with_runs (base_of loaded slot.layers.base) slot.layers.runs
 
--- the slot lies over the loaded bytes; and if they are sure, it holds a whole trace
+-- the slot lies over the loaded bytes, and can be read at once; and if they are sure, it holds a whole trace
 pub record IsSlot {T : Type 0} (loaded : HeldBytes) (h : Head) (slot : Slot T) : Type 0 where
   pub inside : IsInside loaded.bytes slot.layers.base
+  pub room : HasRoomFor loaded slot.layers.base
   pub fit : Fit slot.layers.runs (length (base_of loaded.bytes slot.layers.base))
   pub whole : IsSure loaded.standing → IsTrace h (bytes_in loaded.bytes slot)
 

@@ -1,11 +1,17 @@
 -- The bytes of a pass that were read and are not taken yet.
-use Rattle.std.specs.Prelude.{ℕ, ◌≡◌, ◌≤◌, ◌⊎◌, List, length, drop}
+use Rattle.std.specs.Prelude.{ℕ, ◌≡◌, ◌+◌, ◌≤◌, ◌⊎◌, List, length, drop}
 use Rattle.frame_cut.specs.declared.load_fault.LoadFault.{LoadFault}
 use Rattle.frame_cut.specs.declared.load_fault.LoadFault.TheVariants.{ReadFailed, OutOfMemory}
 
--- the bytes of a window
+-- the bytes of a window, how many that were taken stand in front of them still, and for how many more there is room behind them
 pub record WindowBytes : Type 0 where
   pub bytes : List ℕ
+  pub gone : ℕ
+  pub room : ℕ
+
+-- how many bytes can stand in it at once
+abbrev pub block_of : WindowBytes → ℕ
+block_of w = w.gone + length w.bytes + w.room
 
 -- the bytes that were read from this place on
 pub record IsNextOf (read : List ℕ) (at : ℕ) (next : List ℕ) : Type 0 where

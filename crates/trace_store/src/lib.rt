@@ -25,6 +25,7 @@ mod column;
 mod deleting;
 mod layers;
 mod laying;
+mod loaded;
 mod parts;
 mod payloads;
 mod prepared;

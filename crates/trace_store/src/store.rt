@@ -1,15 +1,16 @@
 // The traces of a volume: an order of ids, and a slot under each.
-ghost use Rattle.std.specs.Prelude.{◌≡◌, ℕ, ◌+◌, ◌-◌, ◌/◌, ◌%◌, ◌^◌, ◌<◌, ◌≤◌, [], ◌∷◌, length, take, drop, Some, None, option_copied, slice_index_or, slice_set, IfErr, IfOk, IfSome, IsErr, IsErrOf, IsOk, IsTrue, OnOk, OnErr, slice_get};
+ghost use Rattle.std.specs.Prelude.{◌≡◌, ℕ, ◌+◌, ◌-◌, ◌/◌, ◌%◌, ◌^◌, ◌<◌, ◌≤◌, All, [], ◌∷◌, length, take, drop, Some, None, option_copied, slice_index_or, slice_set, IfErr, IfOk, IfSome, IsErr, IsErrOf, IsFalse, IsOk, IsTrue, OnOk, OnErr, slice_get};
 ghost use Rattle.std.specs.List.{insert, remove, swap};
 ghost use Rattle.room.specs.Refusals.{Rises};
-ghost use Rattle.base_file.specs.HeldBytes.{InMemory, AreThere, IsInMemory, IsStill, IsSure, lent_of};
+ghost use Rattle.base_file.specs.HeldBytes.{InMemory, OnPass, after_pass, IsInMemory, IsStill, IsSure};
 ghost use Rattle.frame_cut.specs.Cuts.{IsTrace};
 ghost use Rattle.frame_cut.specs.Layout.{bytes_at};
 ghost use Rattle.frame_cut.specs.Splice.{splice};
 ghost use Rattle.trace_seq.specs.Order.{id_at};
 ghost use Rattle.trace_view.specs.Runs.{Fit, bytes_with_runs};
 ghost use Rattle.trace_view.specs.Shown.{head_of, bytes_of as shown_bytes};
-ghost use Rattle.trace_store.specs.Slots.{base_of, IsHeldUnder, IsInside, IsStore};
+ghost use Rattle.trace_store.specs.Faults.{IsFaultOfFetch};
+ghost use Rattle.trace_store.specs.Slots.{base_of, HasRoomFor, IsHeldUnder, IsInside, IsStore};
 ghost use Rattle.frame_cut.specs.Parts.{put_each_at};
 ghost use Rattle.trace_store.specs.Each.{part_of, ArePutRuns, ArePutEach};
 ghost use Rattle.trace_store.specs.OneProof.{IsStore-prop};
@@ -45,7 +46,7 @@ impl<T: Copy> TraceStore<T> {
     ghost use Rattle.trace_store.specs.Stores.{bases_of, payload_under, traces_of, payloads_of, payloads_moved, payloads_then};
     ghost use Rattle.trace_store.specs.Fetched.{trace_with, IsFetched, IsFetchedThen, IsFetchedWith, MayLie};
     ghost use Rattle.trace_store.specs.Grown.{HasMore};
-    ghost use Rattle.trace_store.specs.Windows.{IsFaultOfPass, IsNextOf};
+    ghost use Rattle.trace_store.specs.Windows.{block_of, IsFaultOfPass, IsNextOf};
     ghost use Rattle.trace_store.specs.Swapped.{with_swapped, ArePlaces};
 
     /// No traces yet over a file that was loaded into memory, with memory for so many slots.
@@ -104,7 +105,12 @@ impl<T: Copy> TraceStore<T> {
             IsNextOf self.new.loaded.bytes at window.new.bytes }
         ensures within { length self.new.loaded.bytes ≤ size }
         ensures there { OnOk result (n ≤ length window.new.bytes) }
+        ensures block { block_of window.old ≤ block_of window.new }
         ensures fault { IfErr result IsFaultOfPass }
+        ensures failed { IsErrOf result LoadFault.ReadFailed →
+            self.old.loaded.standing ≡ OnPass →
+            n ≤ length window.old.bytes + (size - length self.old.loaded.bytes) →
+            self.old.loaded.failures < self.new.loaded.failures }
         ensures memory { Rises (IsErrOf result LoadFault.OutOfMemory) room.old room.new }
     {
         window.hold(room, &mut self.loaded, n, size)
@@ -116,20 +122,26 @@ impl<T: Copy> TraceStore<T> {
         ensures grown { HasMore self.old self.new }
         ensures end { IfOk result (λ end. IsTrue end →
             self.new.loaded.bytes ≡ self.old.loaded.bytes) }
+        ensures more { IfOk result (λ end. IsFalse end →
+            length self.old.loaded.bytes < length self.new.loaded.bytes) }
+        ensures failed { IsErr result → self.old.loaded.failures < self.new.loaded.failures }
     {
         self.loaded.is_at_end()
     }
 
-    /// The store of the file that was passed, with what `Held::settle` keeps of it. Takes no
-    /// memory.
+    /// The store of the file that was passed, with what `Held::settle` keeps of it: there is room
+    /// to read each trace at once. Takes no memory.
     pub fn settle(self, room: Vec<u8>, front: Vec<u8>, back: Vec<u8>) -> TraceStore<T>
         requires front { front.items ≡ take (length front.items) self.loaded.bytes }
         requires back { back.items
             ≡ drop (length self.loaded.bytes - length back.items) self.loaded.bytes }
         requires fits { length back.items ≤ length self.loaded.bytes }
+        requires room { ¬ IsInMemory self.loaded.standing →
+            All (λ t. length t ≤ length room.items) (traces_of self) }
         ensures head { result.head ≡ self.head }
         ensures bytes { result.loaded.bytes ≡ self.loaded.bytes }
-        ensures standing { result.loaded.standing ≡ self.loaded.standing }
+        ensures standing { result.loaded.standing ≡ after_pass self.loaded.standing }
+        ensures failures { result.loaded.failures ≡ self.loaded.failures }
         ensures most { ¬ IsInMemory self.loaded.standing →
             result.loaded.most ≡ length room.items }
         ensures front { ¬ IsInMemory self.loaded.standing →
@@ -227,29 +239,9 @@ impl<T: Copy> TraceStore<T> {
         }
     }
 
-    /// Reads n bytes of the loaded file from `at` on, where they are on disk: `loaded` lends them
-    /// then. Refused as `Held::fetch`.
-    pub fn fetch_loaded(&mut self, at: u64, n: usize) -> Result<(), ReadFault>
-        requires { at + n ≤ length self.old.loaded.bytes }
-        ensures head { self.new.head ≡ self.old.head }
-        ensures order { self.new.order ≡ self.old.order }
-        ensures slots { self.new.slots ≡ self.old.slots }
-        ensures loaded { IsStill self.old.loaded self.new.loaded }
-        ensures bases { bases_of self.new ≡ bases_of self.old }
-        ensures traces { traces_of self.new ≡ traces_of self.old }
-        ensures payloads { payloads_of self.new ≡ payloads_of self.old }
-        ensures there { OnOk result (AreThere self.new.loaded at n) }
-        ensures size { OnOk result (length (lent_of self.new.loaded at n) ≡ n) }
-        ensures bytes { OnOk result (IsSure self.new.loaded.standing →
-            lent_of self.new.loaded at n ≡ take n (drop at self.old.loaded.bytes)) }
-        ensures memory { IsInMemory self.old.loaded.standing → IsOk result }
-    {
-        self.loaded.fetch(at, n)
-    }
-
     /// Reads the bytes of trace p, where they are on disk: it can be shown then. Refused where the
-    /// file failed or has fewer bytes than it had, where there is no room for them, and where what
-    /// the file gives now is no whole trace; in memory never.
+    /// file failed or has fewer bytes than it had, where what the file gives now is no whole trace,
+    /// so that it is not what was loaded, and while the file is being passed; in memory never.
     pub fn fetch(&mut self, p: u32) -> Result<(), ReadFault>
         requires first { 1 ≤ p }
         requires last { p ≤ length (traces_of self.old) }
@@ -261,6 +253,7 @@ impl<T: Copy> TraceStore<T> {
         ensures traces { traces_of self.new ≡ traces_of self.old }
         ensures payloads { payloads_of self.new ≡ payloads_of self.old }
         ensures fetched { OnOk result (IsFetched self.new p) }
+        ensures fault { IfErr result (IsFaultOfFetch self.old.loaded self.new.loaded) }
         ensures memory { IsInMemory self.old.loaded.standing → IsOk result }
         ensures same { IsInMemory self.old.loaded.standing → self.new ≡ self.old }
     {
@@ -295,6 +288,7 @@ impl<T: Copy> TraceStore<T> {
         ensures payloads { payloads_of self.new ≡ payloads_of self.old }
         ensures ready { IsReady self.new prepared.now }
         ensures fetched { OnOk result (IsFetchedThen self.new p prepared.now) }
+        ensures fault { IfErr result (IsFaultOfFetch self.old.loaded self.new.loaded) }
         ensures memory { IsInMemory self.old.loaded.standing → IsOk result }
         ensures same { IsInMemory self.old.loaded.standing → self.new ≡ self.old }
     {
@@ -336,6 +330,7 @@ impl<T: Copy> TraceStore<T> {
         ensures traces { traces_of self.new ≡ traces_of self.old }
         ensures payloads { payloads_of self.new ≡ payloads_of self.old }
         ensures fetched { OnOk result (IsFetchedWith self.new p (option_copied laid.entry)) }
+        ensures fault { IfErr result (IsFaultOfFetch self.old.loaded self.new.loaded) }
         ensures memory { IsInMemory self.old.loaded.standing → IsOk result }
         ensures same { IsInMemory self.old.loaded.standing → self.new ≡ self.old }
     {
@@ -672,6 +667,7 @@ impl<T: Copy> TraceStore<T> {
         requires last { p ≤ length (traces_of self.old) + 1 }
         requires few { length (traces_of self.old) + 1 < 2 ^ 32 }
         requires inside { IsInside self.old.loaded.bytes base }
+        requires room { HasRoomFor self.old.loaded base }
         requires whole { IsTrace self.old.head (base_of self.old.loaded.bytes base) }
         ensures head { self.new.head ≡ self.old.head }
         ensures loaded { self.new.loaded ≡ self.old.loaded }

@@ -1,7 +1,7 @@
 // The bytes of a pass that were read and are not taken yet.
-ghost use Rattle.std.specs.Prelude.{ℕ, ◌≡◌, ◌+◌, ◌≤◌, ◌++◌, [], length, take, drop, IfErr, IfOk, IsErr, IsErrOf, OnErr, OnOk};
+ghost use Rattle.std.specs.Prelude.{ℕ, ◌≡◌, ◌+◌, ◌-◌, ◌<◌, ◌≤◌, ◌++◌, [], length, take, drop, IfErr, IfOk, IsErr, IsErrOf, OnErr, OnOk};
 ghost use Rattle.room.specs.Refusals.{Rises};
-ghost use Rattle.base_file.specs.HeldBytes.{HasGrown};
+ghost use Rattle.base_file.specs.HeldBytes.{HasGrown, OnPass};
 
 use base_file::{Held, ReadFault};
 use frame_cut::LoadFault;
@@ -31,7 +31,7 @@ impl Model for Window {
 }
 
 impl Window {
-    ghost use Rattle.trace_store.specs.Windows.{IsFaultOfPass, IsNextOf};
+    ghost use Rattle.trace_store.specs.Windows.{block_of, IsFaultOfPass, IsNextOf};
 
     /// No bytes yet. Takes no memory.
     pub fn new(alloc: Global) -> Window
@@ -62,13 +62,16 @@ impl Window {
     /// Takes the first n bytes. Takes no memory.
     pub fn skip(&mut self, n: usize)
         requires { n ≤ length self.old.bytes }
-        ensures { self.new.bytes ≡ drop n self.old.bytes }
+        ensures bytes { self.new.bytes ≡ drop n self.old.bytes }
+        ensures block { block_of self.new ≡ block_of self.old }
     {
         self.start += n;
     }
 
     /// All memory that the window had. Takes none.
-    pub fn into_room(self) -> Vec<u8> {
+    pub fn into_room(self) -> Vec<u8>
+        ensures { length result.items ≡ block_of self }
+    {
         self.block
     }
 
@@ -88,7 +91,13 @@ impl Window {
             IsNextOf held.new.bytes at self.new.bytes }
         ensures within { length held.new.bytes ≤ size }
         ensures there { OnOk result (n ≤ length self.new.bytes) }
+        ensures block { block_of self.old ≤ block_of self.new }
         ensures fault { IfErr result IsFaultOfPass }
+
+        // Of a file that is being passed, and is said to have these bytes, a read failed then.
+        ensures failed { IsErrOf result LoadFault.ReadFailed → held.old.standing ≡ OnPass →
+            n ≤ length self.old.bytes + (size - length held.old.bytes) →
+            held.old.failures < held.new.failures }
         ensures memory { Rises (IsErrOf result LoadFault.OutOfMemory) room.old room.new }
     {
         if self.make_room(room, n).is_err() {
@@ -100,6 +109,8 @@ impl Window {
     // Makes room for n bytes, those that there are among them.
     fn make_room(&mut self, room: &mut Room, n: usize) -> Result<(), OutOfMemory>
         ensures bytes { self.new.bytes ≡ self.old.bytes }
+        ensures room { OnOk result (n ≤ length self.new.bytes + self.new.room) }
+        ensures block { block_of self.old ≤ block_of self.new }
         ensures memory { Rises (IsErr result) room.old room.new }
     {
         if self.block.len() - self.start >= n {
@@ -111,7 +122,9 @@ impl Window {
 
     // Moves the bytes to the front of the block.
     fn close_up(&mut self)
-        ensures { self.new.bytes ≡ self.old.bytes }
+        ensures bytes { self.new.bytes ≡ self.old.bytes }
+        ensures gone { self.new.gone ≡ 0 }
+        ensures block { block_of self.new ≡ block_of self.old }
     {
         self.block.copy_within(self.start..self.end, 0);
         self.end -= self.start;
@@ -121,6 +134,9 @@ impl Window {
     // Makes the block this long, if it is shorter.
     fn lengthen(&mut self, room: &mut Room, n: usize) -> Result<(), OutOfMemory>
         ensures bytes { self.new.bytes ≡ self.old.bytes }
+        ensures gone { self.new.gone ≡ self.old.gone }
+        ensures room { OnOk result (n ≤ block_of self.new) }
+        ensures block { block_of self.old ≤ block_of self.new }
         ensures memory { Rises (IsErr result) room.old room.new }
     {
         if self.block.len() < n {
@@ -137,7 +153,12 @@ impl Window {
             IsNextOf held.new.bytes at self.new.bytes }
         ensures within { length held.new.bytes ≤ size }
         ensures there { OnOk result (n ≤ length self.new.bytes) }
+        ensures block { block_of self.new ≡ block_of self.old }
         ensures fault { IfErr result (λ fault. fault ≡ LoadFault.ReadFailed) }
+        ensures failed { IsErr result → held.old.standing ≡ OnPass →
+            n ≤ length self.old.bytes + self.old.room →
+            n ≤ length self.old.bytes + (size - length held.old.bytes) →
+            held.old.failures < held.new.failures }
     {
         'turns: while self.len() < n {
             if self.read_some(held, size)? == 0 {
@@ -155,7 +176,13 @@ impl Window {
             IsNextOf held.new.bytes at self.new.bytes }
         ensures within { length held.new.bytes ≤ size }
         ensures count { IfOk result (λ n. length self.new.bytes ≡ length self.old.bytes + n) }
+        ensures read { IfOk result (λ n. length held.new.bytes ≡ length held.old.bytes + n) }
+        ensures room { IfOk result (λ n. self.new.room + n ≡ self.old.room) }
+        ensures block { block_of self.new ≡ block_of self.old }
+        ensures some { IfOk result (λ n. held.old.standing ≡ OnPass →
+            length held.old.bytes < size → 0 < self.old.room → 0 < n) }
         ensures fault { IfErr result (λ fault. fault ≡ LoadFault.ReadFailed) }
+        ensures failed { IsErr result → held.old.failures < held.new.failures }
     {
         let left = size - held.length();
         let room = self.block.len() - self.end;
@@ -177,6 +204,8 @@ fn read_into(held: &mut Held, block: &mut [u8], at: usize, n: usize) -> Result<u
         held.new.bytes ≡ held.old.bytes ++ take count (drop at block.new)) }
     ensures failed { OnErr result (held.new.bytes ≡ held.old.bytes) }
     ensures front { take at block.new ≡ take at block.old }
+    ensures some { IfOk result (λ count. held.old.standing ≡ OnPass → 0 < n → 0 < count) }
+    ensures refused { IsErr result → held.old.failures < held.new.failures }
 {
     held.read_on(&mut block[at..at + n])
 }

@@ -6,6 +6,7 @@ ghost use Rattle.frame_cut.specs.Traces.{count_of};
 ghost use Rattle.frame_cut.specs.Volume.{bytes_of};
 ghost use Rattle.bench_rules.specs.declared.query.Query.TheVariants as queries;
 ghost use Rattle.bench_rules.specs.Answer.{answer, IsReply};
+ghost use Rattle.bench_rules.specs.ReadFaults.{IsFaultOfNoRead};
 ghost use Rattle.bench_rules.specs.State.{State};
 
 use bench_rules::{Answer, AskFault, Field, Info, Items, Text, binary_value, place_in_binary};
@@ -40,6 +41,7 @@ pub fn get_bin_answer(overlay: &Overlay<PackedRecord>, field: &Field) -> Result<
     ensures reply { (s : State) → s.volume ≡ overlay.now.volume →
         result ≡ answer s (queries.GetBin field.now) }
     ensures other { IfErr result (λ fault. fault ≢ AskFault.OutOfMemory) }
+    ensures unread { IfErr result IsFaultOfNoRead }
 {
     let Some(place) = place_in_binary(field) else {
         return Err(AskFault::NoField);
@@ -54,6 +56,7 @@ pub fn get_bin_answer(overlay: &Overlay<PackedRecord>, field: &Field) -> Result<
 /// alone, E11.
 pub fn fields_answer(room: &mut Room, fields: &FieldMap) -> Result<Answer, AskFault>
     ensures reply { (s : State) → s.fields ≡ fields.now.pairs → IsReply s queries.Fields result }
+    ensures unread { IfErr result IsFaultOfNoRead }
     ensures memory { Rises (IsErrOf result AskFault.OutOfMemory) room.old room.new }
 {
     let mut all = Vec::new(room.alloc());

@@ -4,10 +4,11 @@ ghost use Rattle.sample_codes.specs.Formats.{width};
 ghost use Rattle.frame_cut.specs.Traces.{is_trace, trace_at};
 ghost use Rattle.trace_view.specs.Values.{samples_at};
 ghost use Rattle.edit_overlay.specs.CountedVolume.{IsSeen};
+ghost use Rattle.edit_overlay.specs.Reads.{HaveAgreed, IsFaultOfLook};
 ghost use Rattle.bench_rules.specs.declared.edit.Edit.TheVariants as edits;
 ghost use Rattle.bench_rules.specs.declared.field.Field.TheVariants as fields;
 ghost use Rattle.bench_rules.specs.Looks.{trace_looks};
-ghost use Rattle.bench_rules.specs.ReadFaults.{IsReadRefusal};
+ghost use Rattle.bench_rules.specs.ReadFaults.{IsRefusalOfNoRead, IsReadRefusal, IsRefusalOfReads};
 ghost use Rattle.bench_rules.specs.Refused.{first_refusal, no_trace as no_trace_in, no_place_for_trace as no_place_in, room_refusal as no_room_in, insert_refusal as not_in};
 ghost use Rattle.bench_rules.specs.State.{State};
 ghost use Rattle.volume_answers.specs.Rooms.{HasRoom, HasSampleRoom};
@@ -27,14 +28,16 @@ pub fn value_refusal(
     value: i128,
 ) -> Result<Option<Refusal>, ReadFault>
     ensures refusal { IfOk result (λ refusal. (s : State) → s.volume ≡ overlay.old.volume →
-        IsTrue overlay.new.agreed →
+        HaveAgreed overlay.new.reads →
         refusal ≡ first_refusal s (edits.Set p (fields.Place place) value)) }
     ensures room { IfOk result (λ refusal. refusal ≡ None →
         HasRoom overlay.old.volume p place value) }
     ensures seen { IsSeen overlay.old overlay.new (trace_looks overlay.old.volume p 1) }
+    ensures reads_tell { IfErr result (IsFaultOfLook overlay.old.reads overlay.new.reads) }
     ensures read { IfErr result (λ _. IsTrue (is_trace overlay.old.volume p)
         × IsTrue overlay.old.loaded.on_disk) }
     ensures other { IfOk result (λ refusal. IfSome refusal (λ r. r ≢ Refusal.OutOfMemory)) }
+    ensures rule { IfOk result (λ refusal. IfSome refusal IsRefusalOfNoRead) }
 {
     let head = overlay.head();
     let Some(trace) = overlay.look(p)? else {
@@ -53,15 +56,16 @@ pub fn patch_place(
     values: &[i128],
 ) -> Result<u64, Refusal>
     ensures ok { OnOk result ((s : State) → s.volume ≡ overlay.old.volume →
-        IsTrue overlay.new.agreed → first_refusal s (edits.Patch p k values.now) ≡ None) }
-    ensures place { IfOk result (λ at. IsTrue overlay.new.agreed → at ≡ samples_at
+        HaveAgreed overlay.new.reads → first_refusal s (edits.Patch p k values.now) ≡ None) }
+    ensures place { IfOk result (λ at. HaveAgreed overlay.new.reads → at ≡ samples_at
         overlay.old.volume.head (trace_at overlay.old.volume p)
         + width overlay.old.volume.head.format * k) }
     ensures room { IfOk result (λ at. HasSampleRoom overlay.old.volume p at values.now) }
     ensures err { IfErr result (λ refusal. (IsTrue (is_trace overlay.old.volume p) ×
         IsReadRefusal overlay.old.loaded.on_disk refusal) ⊎
-        ((s : State) → s.volume ≡ overlay.old.volume → IsTrue overlay.new.agreed →
+        ((s : State) → s.volume ≡ overlay.old.volume → HaveAgreed overlay.new.reads →
         first_refusal s (edits.Patch p k values.now) ≡ Some refusal)) }
+    ensures reads_tell { IfErr result (IsRefusalOfReads overlay.old.reads overlay.new.reads) }
     ensures there { OnOk result (IsTrue (is_trace overlay.old.volume p)) }
     ensures seen { IsSeen overlay.old overlay.new (trace_looks overlay.old.volume p 1) }
     ensures other { IfErr result (λ refusal. refusal ≢ Refusal.OutOfMemory) }
@@ -86,6 +90,7 @@ pub fn blank_refusal(overlay: &Overlay<PackedRecord>, limits: Limits, p: u32) ->
     ensures refusal { (s : State) → s.volume ≡ overlay.now.volume → s.limits ≡ limits →
         result ≡ first_refusal s (edits.Blank p) }
     ensures other { IfSome result (λ refusal. refusal ≢ Refusal.OutOfMemory) }
+    ensures rule { IfSome result IsRefusalOfNoRead }
 {
     insert_refusal(overlay, limits, p, blank_length(&overlay.head()))
 }
@@ -101,9 +106,11 @@ pub fn copy_refusal(
     ensures refusal { IfOk result (λ refusal. (s : State) → s.volume ≡ overlay.old.volume →
         s.limits ≡ limits → refusal ≡ first_refusal s (edits.Copy q p)) }
     ensures seen { IsSeen overlay.old overlay.new (trace_looks overlay.old.volume q 1) }
+    ensures reads_tell { IfErr result (IsFaultOfLook overlay.old.reads overlay.new.reads) }
     ensures read { IfErr result (λ _. IsTrue (is_trace overlay.old.volume q)
         × IsTrue overlay.old.loaded.on_disk) }
     ensures other { IfOk result (λ refusal. IfSome refusal (λ r. r ≢ Refusal.OutOfMemory)) }
+    ensures rule { IfOk result (λ refusal. IfSome refusal IsRefusalOfNoRead) }
 {
     let length = match overlay.look(q)? {
         Some(trace) => trace.length(),
@@ -117,6 +124,7 @@ pub fn move_refusal(overlay: &Overlay<PackedRecord>, a: u32, b: u32) -> Option<R
     ensures refusal { (s : State) → s.volume ≡ overlay.now.volume →
         result ≡ first_refusal s (edits.Move a b) }
     ensures other { IfSome result (λ refusal. refusal ≢ Refusal.OutOfMemory) }
+    ensures rule { IfSome result IsRefusalOfNoRead }
 {
     match no_trace(overlay, a) {
         Some(refusal) => Some(refusal),
@@ -128,6 +136,7 @@ pub fn move_refusal(overlay: &Overlay<PackedRecord>, a: u32, b: u32) -> Option<R
 fn no_trace(overlay: &Overlay<PackedRecord>, p: u32) -> Option<Refusal>
     ensures refusal { result ≡ no_trace_in overlay.now.volume p }
     ensures other { IfSome result (λ refusal. refusal ≢ Refusal.OutOfMemory) }
+    ensures rule { IfSome result IsRefusalOfNoRead }
 {
     if has_trace(overlay, p) {
         None
@@ -145,6 +154,7 @@ fn insert_refusal(
 ) -> Option<Refusal>
     ensures refusal { result ≡ not_in overlay.now.volume limits p length }
     ensures other { IfSome result (λ refusal. refusal ≢ Refusal.OutOfMemory) }
+    ensures rule { IfSome result IsRefusalOfNoRead }
 {
     match no_place_for_trace(overlay, p) {
         Some(refusal) => Some(refusal),
@@ -156,6 +166,7 @@ fn insert_refusal(
 fn no_place_for_trace(overlay: &Overlay<PackedRecord>, p: u32) -> Option<Refusal>
     ensures refusal { result ≡ no_place_in overlay.now.volume p }
     ensures other { IfSome result (λ refusal. refusal ≢ Refusal.OutOfMemory) }
+    ensures rule { IfSome result IsRefusalOfNoRead }
 {
     let count = overlay.count();
     if p >= 1 && u64::from(p) <= u64::from(count) + 1 {
@@ -169,6 +180,7 @@ fn no_place_for_trace(overlay: &Overlay<PackedRecord>, p: u32) -> Option<Refusal
 fn room_refusal(overlay: &Overlay<PackedRecord>, limits: Limits, length: u64) -> Option<Refusal>
     ensures refusal { result ≡ no_room_in overlay.now.volume limits length }
     ensures other { IfSome result (λ refusal. refusal ≢ Refusal.OutOfMemory) }
+    ensures rule { IfSome result IsRefusalOfNoRead }
 {
     if length > limits.bytes() || overlay.length() > limits.bytes() - length {
         return Some(Refusal::TooLarge);

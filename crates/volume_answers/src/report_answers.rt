@@ -1,6 +1,6 @@
 // The answers of the reports, from the records of a volume's traces and the values that run with
 // them. None looks at a trace.
-ghost use Rattle.std.specs.Prelude.{◌≡◌, ◌<◌, ◌^◌, ℕ, List, length, false, Ok, IsErrOf};
+ghost use Rattle.std.specs.Prelude.{◌≡◌, ◌<◌, ◌^◌, ℕ, List, length, false, Ok, IsErrOf, IfErr};
 ghost use Rattle.room.specs.Refusals.{Rises};
 ghost use Rattle.field_map.specs.Pairs.{Pairs};
 ghost use Rattle.frame_cut.specs.declared.file_head.Head.{Head as Heads};
@@ -14,6 +14,7 @@ ghost use Rattle.bench_rules.specs.declared.query.Query.TheVariants as queries;
 ghost use Rattle.bench_rules.specs.Answer.{answer, IsReply};
 ghost use Rattle.bench_rules.specs.Live.{AreRecordsOf, IsGridOf, AreRangesOf, AreTotalsOf, AreTriplesOf};
 ghost use Rattle.bench_rules.specs.Reports.{head_facts as head_facts_of, location_of, totals_in};
+ghost use Rattle.bench_rules.specs.ReadFaults.{IsFaultOfNoRead};
 ghost use Rattle.bench_rules.specs.State.{State};
 
 use bench_rules::{Answer, AskFault, Items, Location};
@@ -66,6 +67,7 @@ pub fn fold(grid: &Grid, inline: i128, crossline: i128) -> Answer
 /// The cells that have traces. Takes memory for the list; refused for want of it alone, E11.
 pub fn cells(room: &mut Room, grid: &Grid) -> Result<Answer, AskFault>
     ensures reply { (s : State) → IsGridOf s grid.now → IsReply s queries.Grid result }
+    ensures unread { IfErr result IsFaultOfNoRead }
     ensures memory { Rises (IsErrOf result AskFault.OutOfMemory) room.old room.new }
 {
     Ok(Answer::Grid(Items::new(grid.cells(room)?)))
@@ -74,6 +76,7 @@ pub fn cells(room: &mut Room, grid: &Grid) -> Result<Answer, AskFault>
 /// The inlines that have traces. Takes memory for the list; refused for want of it alone, E11.
 pub fn inlines(room: &mut Room, grid: &Grid) -> Result<Answer, AskFault>
     ensures reply { (s : State) → IsGridOf s grid.now → IsReply s queries.Inlines result }
+    ensures unread { IfErr result IsFaultOfNoRead }
     ensures memory { Rises (IsErrOf result AskFault.OutOfMemory) room.old room.new }
 {
     Ok(Answer::Inlines(Items::new(grid.inlines(room)?)))
@@ -82,6 +85,7 @@ pub fn inlines(room: &mut Room, grid: &Grid) -> Result<Answer, AskFault>
 /// The crosslines that have traces. Takes memory for the list; refused for want of it alone, E11.
 pub fn crosslines(room: &mut Room, grid: &Grid) -> Result<Answer, AskFault>
     ensures reply { (s : State) → IsGridOf s grid.now → IsReply s queries.Crosslines result }
+    ensures unread { IfErr result IsFaultOfNoRead }
     ensures memory { Rises (IsErrOf result AskFault.OutOfMemory) room.old room.new }
 {
     Ok(Answer::Crosslines(Items::new(grid.crosslines(room)?)))
@@ -91,6 +95,7 @@ pub fn crosslines(room: &mut Room, grid: &Grid) -> Result<Answer, AskFault>
 /// of it alone, E11.
 pub fn histogram(room: &mut Room, grid: &Grid) -> Result<Answer, AskFault>
     ensures reply { (s : State) → IsGridOf s grid.now → IsReply s queries.Histogram result }
+    ensures unread { IfErr result IsFaultOfNoRead }
     ensures memory { Rises (IsErrOf result AskFault.OutOfMemory) room.old room.new }
 {
     Ok(Answer::Histogram(Items::new(grid.histogram(room)?)))
@@ -144,6 +149,7 @@ pub fn faults(
     requires { length records.now < 2 ^ 32 }
     ensures reply { (s : State) → AreTriplesOf s triples.now → AreRecordsOf s records.now →
         head.now ≡ head_facts_of s.volume → IsReply s queries.Faults result }
+    ensures unread { IfErr result IsFaultOfNoRead }
     ensures memory { Rises (IsErrOf result AskFault.OutOfMemory) room.old room.new }
 {
     Ok(Answer::Faults(Items::new(triples.report(room, records, head)?)))

@@ -5,6 +5,7 @@ ghost use Rattle.trace_record.specs.Packed.{record_in};
 ghost use Rattle.bench_rules.specs.declared.query.Query.TheVariants as queries;
 ghost use Rattle.bench_rules.specs.Answer.{answer, IsReply};
 ghost use Rattle.bench_rules.specs.Live.{AreRecordsOf, AreTotalsOf, AreTriplesOf};
+ghost use Rattle.bench_rules.specs.ReadFaults.{IsFaultOfNoRead};
 ghost use Rattle.bench_rules.specs.State.{State};
 
 use crate::of_headers::head_facts;
@@ -22,6 +23,7 @@ pub fn totals_answer(overlay: &Overlay<PackedRecord>, counted: &Totals) -> Resul
     ensures reply { (s : State) → s.volume ≡ overlay.now.volume → AreTotalsOf s counted.now →
         result ≡ answer s queries.Totals }
     ensures other { IfErr result (λ fault. fault ≢ AskFault.OutOfMemory) }
+    ensures unread { IfErr result IsFaultOfNoRead }
 {
     if has_opaque_samples(overlay) {
         return Err(AskFault::NoValues);
@@ -40,6 +42,7 @@ pub fn faults_answer(
     ensures reply { (s : State) → s.volume ≡ overlay.now.volume →
         AreRecordsOf s (map record_in overlay.now.payloads) → AreTriplesOf s triples.now →
         IsReply s queries.Faults result }
+    ensures unread { IfErr result IsFaultOfNoRead }
     ensures memory { Rises (IsErrOf result AskFault.OutOfMemory) room.old room.new }
 {
     let head = head_facts(overlay.head(), overlay.text(), overlay.bin());

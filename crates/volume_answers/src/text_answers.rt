@@ -6,6 +6,7 @@ ghost use Rattle.text_block.specs.Lines.{shown_line};
 ghost use Rattle.bench_rules.specs.declared.ask_fault.AskFault.TheVariants.{OutOfMemory as no_memory};
 ghost use Rattle.bench_rules.specs.declared.query.Query.TheVariants as queries;
 ghost use Rattle.bench_rules.specs.Answer.{answer, text_blocks, IsReply};
+ghost use Rattle.bench_rules.specs.ReadFaults.{IsFaultOfNoRead};
 ghost use Rattle.bench_rules.specs.State.{State};
 
 use crate::stanzas::add_stanzas;
@@ -25,6 +26,7 @@ pub fn line_answer(
 ) -> Result<Answer, AskFault>
     ensures reply { (s : State) → s.volume ≡ overlay.now.volume →
         IsReply s (queries.Line b q) result }
+    ensures unread { IfErr result IsFaultOfNoRead }
     ensures memory { Rises (IsErrOf result AskFault.OutOfMemory) room.old room.new }
 {
     if !is_line(q) {
@@ -44,6 +46,7 @@ pub fn lines_answer(
 ) -> Result<Answer, AskFault>
     ensures reply { (s : State) → s.volume ≡ overlay.now.volume →
         IsReply s (queries.Lines b) result }
+    ensures unread { IfErr result IsFaultOfNoRead }
     ensures memory { Rises (IsErrOf result AskFault.OutOfMemory) room.old room.new }
 {
     let Some(block) = overlay.block(b) else {
@@ -74,6 +77,7 @@ pub fn code_answer(overlay: &Overlay<PackedRecord>, b: u32) -> Result<Answer, As
     ensures reply { (s : State) → s.volume ≡ overlay.now.volume →
         result ≡ answer s (queries.Code b) }
     ensures other { IfErr result (λ fault. fault ≢ AskFault.OutOfMemory) }
+    ensures unread { IfErr result IsFaultOfNoRead }
 {
     match overlay.block(b) {
         Some(block) => Ok(Answer::Code(code_of(block))),
@@ -87,6 +91,7 @@ pub fn stanzas_answer(room: &mut Room, overlay: &Overlay<PackedRecord>) -> Resul
     requires blocks { length overlay.now.volume.blocks ≡ overlay.now.volume.head.blocks }
     requires trailer { length overlay.now.volume.trailer ≡ overlay.now.volume.head.trailer }
     ensures reply { (s : State) → s.volume ≡ overlay.now.volume → IsReply s queries.Stanzas result }
+    ensures unread { IfErr result IsFaultOfNoRead }
     ensures memory { Rises (IsErrOf result AskFault.OutOfMemory) room.old room.new }
 {
     let mut all = Vec::new(room.alloc());

@@ -5,11 +5,12 @@ ghost use Rattle.trace_view.specs.Values.{has_floats};
 ghost use Rattle.trace_record.specs.Facts.{facts_of};
 ghost use Rattle.trace_record.specs.OfTrace.{record_of};
 ghost use Rattle.edit_overlay.specs.CountedVolume.{IsSeen};
+ghost use Rattle.edit_overlay.specs.Reads.{Reads, HaveAgreed};
 ghost use Rattle.bench_rules.specs.declared.query.Query.TheVariants as queries;
 ghost use Rattle.bench_rules.specs.Answer.{answer, of_trace, trace_value, IsReply};
 ghost use Rattle.bench_rules.specs.Looks.{looks_at, trace_looks, stat_looks};
 ghost use Rattle.bench_rules.specs.Places.{place_in_trace as place_of_field};
-ghost use Rattle.bench_rules.specs.ReadFaults.{IsReadFault};
+ghost use Rattle.bench_rules.specs.ReadFaults.{IsFaultOfReads, IsReadFault, IsFaultOfNoRead};
 ghost use Rattle.bench_rules.specs.State.{State};
 
 use crate::report_answers::{geometry, stat};
@@ -31,8 +32,9 @@ pub fn get_answer(
     field: &Field,
 ) -> Result<Answer, AskFault>
     ensures reply { (s : State) → s.volume ≡ overlay.old.volume → s.fields ≡ map.now.pairs →
-        s.on_disk ≡ overlay.old.loaded.on_disk → IsTrue overlay.new.agreed →
+        s.on_disk ≡ overlay.old.loaded.on_disk → HaveAgreed overlay.new.reads →
         IsReply s (queries.Get p field.now) result }
+    ensures reads_tell { IfErr result (IsFaultOfReads overlay.old.reads overlay.new.reads) }
     ensures seen { IsSeen overlay.old overlay.new
         (looks_at (place_of_field map.now.pairs field.now)
         (trace_looks overlay.old.volume p 1)) }
@@ -47,10 +49,11 @@ pub fn get_answer(
 
 // The number at the place of trace p: E01, E03.
 fn value_at(overlay: &mut Overlay<PackedRecord>, p: u32, place: Place) -> Result<Answer, AskFault>
-    ensures reply { IsTrue overlay.new.agreed → (result ≡ of_trace overlay.old.volume p
+    ensures reply { HaveAgreed overlay.new.reads → (result ≡ of_trace overlay.old.volume p
         (λ t. trace_value overlay.old.volume.head t (Some place))) ⊎
         IsErrAnd result (λ fault. IsTrue (is_trace overlay.old.volume p) ×
         IsReadFault overlay.old.loaded.on_disk fault) }
+    ensures reads_tell { IfErr result (IsFaultOfReads overlay.old.reads overlay.new.reads) }
     ensures seen { IsSeen overlay.old overlay.new (trace_looks overlay.old.volume p 1) }
     ensures other { IfErr result (λ fault. fault ≢ AskFault.OutOfMemory) }
 {
@@ -71,8 +74,9 @@ pub fn sample_answer(
     k: u32,
 ) -> Result<Answer, AskFault>
     ensures reply { (s : State) → s.volume ≡ overlay.old.volume →
-        s.on_disk ≡ overlay.old.loaded.on_disk → IsTrue overlay.new.agreed →
+        s.on_disk ≡ overlay.old.loaded.on_disk → HaveAgreed overlay.new.reads →
         IsReply s (queries.Sample p k) result }
+    ensures reads_tell { IfErr result (IsFaultOfReads overlay.old.reads overlay.new.reads) }
     ensures seen { IsSeen overlay.old overlay.new (trace_looks overlay.old.volume p 1) }
     ensures other { IfErr result (λ fault. fault ≢ AskFault.OutOfMemory) }
 {
@@ -93,6 +97,7 @@ pub fn geometry_answer(
         option_map (record_of s.volume.head s.fields) (trace_of s.volume p) →
         result ≡ answer s (queries.Geometry p) }
     ensures other { IfErr result (λ fault. fault ≢ AskFault.OutOfMemory) }
+    ensures unread { IfErr result IsFaultOfNoRead }
 {
     match trace {
         Some(trace) => Ok(geometry(&trace)),
@@ -110,9 +115,10 @@ pub fn stat_answer(
     p: u32,
 ) -> Result<Answer, AskFault>
     ensures reply { (s : State) → s.volume ≡ overlay.old.volume →
-        s.on_disk ≡ overlay.old.loaded.on_disk → IsTrue overlay.new.agreed →
+        s.on_disk ≡ overlay.old.loaded.on_disk → HaveAgreed overlay.new.reads →
         option_map facts_of trace ≡ option_map (record_of s.volume.head s.fields)
         (trace_of s.volume p) → IsReply s (queries.Stat p) result }
+    ensures reads_tell { IfErr result (IsFaultOfReads overlay.old.reads overlay.new.reads) }
     ensures seen { IsSeen overlay.old overlay.new (stat_looks overlay.old.volume p) }
     ensures other { IfErr result (λ fault. fault ≢ AskFault.OutOfMemory) }
 {
@@ -126,8 +132,9 @@ pub fn stat_answer(
 fn stat_of_floats(overlay: &mut Overlay<PackedRecord>, p: u32) -> Result<Answer, AskFault>
     requires { has_floats overlay.old.volume.head ≡ true }
     ensures reply { (s : State) → s.volume ≡ overlay.old.volume →
-        s.on_disk ≡ overlay.old.loaded.on_disk → IsTrue overlay.new.agreed →
+        s.on_disk ≡ overlay.old.loaded.on_disk → HaveAgreed overlay.new.reads →
         IsReply s (queries.Stat p) result }
+    ensures reads_tell { IfErr result (IsFaultOfReads overlay.old.reads overlay.new.reads) }
     ensures seen { IsSeen overlay.old overlay.new (stat_looks overlay.old.volume p) }
     ensures other { IfErr result (λ fault. fault ≢ AskFault.OutOfMemory) }
 {
@@ -147,6 +154,7 @@ fn stat_of_numbers(
         has_floats s.volume.head ≡ false → option_map facts_of trace ≡
         option_map (record_of s.volume.head s.fields) (trace_of s.volume p) →
         result ≡ answer s (queries.Stat p) }
+    ensures reads_tell { (old new : Reads) → IfErr result (IsFaultOfReads old new) }
     ensures other { IfErr result (λ fault. fault ≢ AskFault.OutOfMemory) }
 {
     let Some(trace) = trace else {

@@ -1,15 +1,16 @@
 -- What holds of a file between the calls that pass it.
 use Rattle.std.proofs.Common.{◌≡◌, ℕ, zero, suc, ◌+◌, ◌*◌, ◌-◌, ◌<◌, ◌≤◌, ◌⊎◌, List, [], ◌∷◌, ◌++◌, length, take, drop, get_or, refl, sym, ap, ◌∙◌, subst, arith, inl, inr, All, Result, Ok, true}
 use Rattle.std.proofs.lemmas.List.{drop-drop, get_or_push, length-drop, length-map, length_push, length-take, length-take-le, map-append, take-take}
-use Rattle.std.proofs.lemmas.List.Elements.{All-get_or, All-nil}
+use Rattle.std.proofs.lemmas.List.Elements.{All-append, All-cons, All-get_or, All-nil}
 use Rattle.std.proofs.lemmas.List.Edits.{insert_end}
 use Rattle.std.specs.List.{insert}
-use Rattle.base_file.specs.HeldBytes.{HeldBytes, OnDisk}
+use Rattle.base_file.specs.HeldBytes.{HeldBytes, Standing, OnDisk, OnPass, IsInMemory}
 use Rattle.frame_cut.specs.declared.extent.Extent.{Extent}
 use Rattle.frame_cut.specs.declared.file_head.Head.{Head}
 use Rattle.frame_cut.specs.declared.limits.Limits.{Limits}
 use Rattle.frame_cut.specs.declared.reading.Reading.{Reading}
 use Rattle.frame_cut.specs.declared.load_fault.LoadFault.{LoadFault}
+use Rattle.frame_cut.specs.declared.load_fault.LoadFault.TheVariants.{ReadFailed}
 use Rattle.frame_cut.specs.Cuts.{IsCut, IsTail, IsTrace, trace_refusal}
 use Rattle.frame_cut.specs.Fronts.{BeginsWith}
 use Rattle.frame_cut.specs.Layout.{bytes_at, pieces, tail_at, volume_at, AreTracesOf}
@@ -20,12 +21,12 @@ use Rattle.frame_cut.proofs.LaidLemmas.{cut_from, ends_there, laid_from, joined-
 use Rattle.trace_store.specs.declared.store.TraceStore.{TraceStore}
 use Rattle.trace_store.specs.Grown.{HasMore}
 use Rattle.trace_store.specs.Stores.{traces_of}
-use Rattle.trace_store.specs.Windows.{IsFaultOfPass, IsNextOf, WindowBytes}
+use Rattle.trace_store.specs.Windows.{block_of, IsFaultOfPass, IsNextOf, WindowBytes}
 use Rattle.trace_store.proofs.GrownLemmas.{slice_grown}
 use Rattle.edit_overlay.specs.Held.{volume_with}
-use Rattle.volume_loading.specs.PassedFile.{IsPassFault}
+use Rattle.volume_loading.specs.PassedFile.{IsGivenUp, IsPassFault}
 use Rattle.volume_loading.specs.Passing.{IsPassing, IsWalked}
-use Rattle.volume_loading.specs.PassReads.{HasLengthAt, IsHeadFault, IsHeadOf, IsTraceFault}
+use Rattle.volume_loading.specs.PassReads.{HasLengthAt, IsFaultOfHold, IsHeadFault, IsHeadOf, IsTraceFault}
 use Rattle.volume_loading.specs.declared.passing.Passing.TheInside.{Inside}
 use Rattle.volume_loading.proofs.PassLemmas.{begins_less, some_file}
 
@@ -65,12 +66,41 @@ insert_last ts n t is =
     let place : n + 1 - 1 ≡ length ts = omega (arith, is) in
     ap (λ (i : ℕ). insert ts i t) place ∙ insert_end ts t
 
+-- ---- what was not read
+
+-- a window that was not filled
+pub hold_fault : (size : ℕ) (before now : HeldBytes) (n w : ℕ) (fault : LoadFault) → IsFaultOfPass fault → (fault ≡ ReadFailed → before.standing ≡ OnPass → n ≤ w + (size - length before.bytes) → before.failures < now.failures)
+    → now.standing ≡ before.standing → n ≤ w + (size - length before.bytes) → IsFaultOfHold size now fault
+hold_fault size before now n w fault (inl failed) told standing fits =
+    inl (failed, λ pass. let rose : before.failures < now.failures = told failed (sym standing ∙ pass) fits in inl (omega (arith, rose)))
+hold_fault size before now n w fault (inr memory) told standing fits = inr memory
+
+-- the pass over a file gives up
+pub given_up : (held : HeldBytes) (size : ℕ) (fault : LoadFault) → held.standing ≡ OnPass → IsFaultOfHold size held fault → IsGivenUp size held.bytes held.failures fault
+given_up held size fault pass (inl failed) = inl (failed.0, failed.1 pass)
+given_up held size fault pass (inr memory) = inr memory
+
+-- a file that is passed is not in memory
+pub out_of_memory : (standing : Standing) → standing ≡ OnPass → ¬ IsInMemory standing
+out_of_memory standing is inside = subst IsInMemory is inside
+
+-- a file is passed no longer once the pass has ended
+pub settled_apart : OnDisk true ≡ OnPass → ⊥
+settled_apart e = cc
+
+-- traces that fit in a block fit in one that is no shorter
+pub each_fits : (ts us : List (List ℕ)) (m n : ℕ) → us ≡ ts → m ≤ n → All (λ t. length t ≤ m) ts → All (λ t. length t ≤ n) us
+each_fits ts us m n same longer each = rw same (λ k d short. omega (arith, longer, each k d short))
+
+-- and so they do with one more behind them that fits
+pub last_fits : (ts us : List (List ℕ)) (t : List ℕ) (n : ℕ) → us ≡ ts ++ t ∷ [] → length t ≤ n → All (λ t. length t ≤ n) ts → All (λ t. length t ≤ n) us
+last_fits ts us t n same fits each = rw same (All-append (λ (x : List ℕ). length x ≤ n) ts (t ∷ []) each (All-cons (λ (x : List ℕ). length x ≤ n) t [] fits (All-nil (λ (x : List ℕ). length x ≤ n))))
+
 -- ---- the head
 
-pub head_fault : (read : List ℕ) (size : ℕ) (reading : Reading) (limits : Limits) (fault : LoadFault) → length read ≤ size → IsFaultOfPass fault ⊎ IsHeadFault read size reading limits fault → IsPassFault size reading limits read fault
-head_fault read size reading limits fault within (inl (inl failed)) = inl failed
-head_fault read size reading limits fault within (inl (inr memory)) = inr (inl memory)
-head_fault read size reading limits fault within (inr told) = inr (inr (within, λ file begun. inl (told file begun)))
+pub head_fault : (held : HeldBytes) (size : ℕ) (reading : Reading) (limits : Limits) (fault : LoadFault) → held.standing ≡ OnPass → length held.bytes ≤ size → IsFaultOfHold size held fault ⊎ IsHeadFault held.bytes size reading limits fault → IsPassFault size reading limits held.bytes held.failures fault
+head_fault held size reading limits fault pass within (inl given) = inl (given_up held size fault pass given)
+head_fault held size reading limits fault pass within (inr told) = inr (within, λ file begun. inl (told file begun))
 
 -- a head has room for what it names
 pub head_room : (read : List ℕ) (size : ℕ) (reading : Reading) (limits : Limits) (h : Head) → length read ≤ size → IsHeadOf read size reading limits h → (h.traces_at + 3200 * h.trailer ≤ size) × (3600 ≤ h.traces_at)
@@ -92,14 +122,16 @@ module _ {T : Type 0} where
       subst (λ (h : Head). HasLengthAt file h limits (length (traces_of t) + 1) at n) (sym head)
       (subst (λ (ts : List (List ℕ)). HasLengthAt file s.head limits (length ts + 1) at n) (sym traces) is)
 
-  pub passed_on : (p : Inside T) (s : TraceStore T) (w : WindowBytes) (n k : ℕ) → IsPassing p → HasMore p.store s → IsNextOf s.loaded.bytes p.at w.bytes → length s.loaded.bytes ≤ p.size → n ≤ length w.bytes → p.at + n + 3200 * p.store.head.trailer ≤ p.size
+  pub passed_on : (p : Inside T) (s : TraceStore T) (w : WindowBytes) (n k : ℕ) → IsPassing p → HasMore p.store s → IsNextOf s.loaded.bytes p.at w.bytes → block_of p.window ≤ block_of w → length s.loaded.bytes ≤ p.size → n ≤ length w.bytes → p.at + n + 3200 * p.store.head.trailer ≤ p.size
       → (0 < n → (file : List ℕ) → BeginsWith s.loaded.bytes p.size file → HasLengthAt file p.store.head p.limits (length (traces_of p.store) + 1) p.at n) → IsPassing (record p { store = s; window = w; next = n; tail = 0; looks = k })
-  passed_on p s w n k passing more next within short fits told = record {
+  passed_on p s w n k passing more next longer within short fits told = record {
     extents = passing.extents;
     walked = λ file begun. walked_on file p.reading p.limits p.store s passing.extents p.at more.head more.traces (passing.walked file (begins_less p.store.loaded.bytes s.loaded.bytes p.size file more.loaded.begins begun));
     standing = more.loaded.standing ∙ passing.standing;
     within = within;
     next = next;
+    block = omega (arith, passing.block, longer);
+    each = each_fits (traces_of p.store) (traces_of s) (block_of p.window) (block_of w) more.traces longer passing.each;
     room = omega (arith, passing.room, ap (λ (h : Head). h.trailer) more.head);
     front = front_kept p.front.items p.store.loaded.bytes s.loaded.bytes passing.front more.loaded.begins;
     long = passing.long ∙ ap (λ (h : Head). h.traces_at) (sym more.head);
@@ -114,14 +146,16 @@ module _ {T : Type 0} where
   tail_kept : (file : List ℕ) (reading : Reading) (s t : TraceStore T) (at : ℕ) → t.head ≡ s.head → IsTail reading s.head (left_at file s.head at) → IsTail reading t.head (left_at file t.head at)
   tail_kept file reading s t at head is = subst (λ (h : Head). IsTail reading h (left_at file h at)) (sym head) is
 
-  pub passed_tail : (p : Inside T) (s : TraceStore T) (w : WindowBytes) (n : ℕ) → IsPassing p → HasMore p.store s → IsNextOf s.loaded.bytes p.at w.bytes → length s.loaded.bytes ≤ p.size → p.at + n + 3200 * p.store.head.trailer ≡ p.size
+  pub passed_tail : (p : Inside T) (s : TraceStore T) (w : WindowBytes) (n : ℕ) → IsPassing p → HasMore p.store s → IsNextOf s.loaded.bytes p.at w.bytes → block_of p.window ≤ block_of w → length s.loaded.bytes ≤ p.size → p.at + n + 3200 * p.store.head.trailer ≡ p.size
       → ((file : List ℕ) → BeginsWith s.loaded.bytes p.size file → IsTail p.reading p.store.head (left_at file p.store.head p.at)) → IsPassing (record p { store = s; window = w; next = 0; tail = n })
-  passed_tail p s w n passing more next within all told = record {
+  passed_tail p s w n passing more next longer within all told = record {
     extents = passing.extents;
     walked = λ file begun. walked_on file p.reading p.limits p.store s passing.extents p.at more.head more.traces (passing.walked file (begins_less p.store.loaded.bytes s.loaded.bytes p.size file more.loaded.begins begun));
     standing = more.loaded.standing ∙ passing.standing;
     within = within;
     next = next;
+    block = omega (arith, passing.block, longer);
+    each = each_fits (traces_of p.store) (traces_of s) (block_of p.window) (block_of w) more.traces longer passing.each;
     room = omega (arith, passing.room, ap (λ (h : Head). h.trailer) more.head);
     front = front_kept p.front.items p.store.loaded.bytes s.loaded.bytes passing.front more.loaded.begins;
     long = passing.long ∙ ap (λ (h : Head). h.traces_at) (sym more.head);
@@ -138,10 +172,9 @@ module _ {T : Type 0} where
   number_of file s es is = ap length is ∙ length-map es (bytes_at file)
 
   pub trace_fault : (p : Inside T) (s : TraceStore T) (fault : LoadFault) → IsPassing p → HasMore p.store s → length s.loaded.bytes ≤ p.size → p.at + 3200 * p.store.head.trailer < p.size
-      → IsFaultOfPass fault ⊎ IsTraceFault s.loaded.bytes p.size p.reading p.store.head p.limits (length (traces_of p.store) + 1) p.at fault → IsPassFault p.size p.reading p.limits s.loaded.bytes fault
-  trace_fault p s fault passing more within some (inl (inl failed)) = inl failed
-  trace_fault p s fault passing more within some (inl (inr memory)) = inr (inl memory)
-  trace_fault p s fault passing more within some (inr told) = inr (inr (
+      → IsFaultOfHold p.size s.loaded fault ⊎ IsTraceFault s.loaded.bytes p.size p.reading p.store.head p.limits (length (traces_of p.store) + 1) p.at fault → IsPassFault p.size p.reading p.limits s.loaded.bytes s.loaded.failures fault
+  trace_fault p s fault passing more within some (inl given) = inl (given_up s.loaded p.size fault (more.loaded.standing ∙ passing.standing) given)
+  trace_fault p s fault passing more within some (inr told) = inr (
     within,
     λ file begun.
         let w = passing.walked file (begins_less p.store.loaded.bytes s.loaded.bytes p.size file more.loaded.begins begun) in
@@ -152,7 +185,7 @@ module _ {T : Type 0} where
           unkept = (told file begun).1;
           refused = ap (λ (i : ℕ). trace_refusal h p.limits (i + 1) (left_at file h p.at)) (sym (number_of file p.store passing.extents w.traces)) ∙ (told file begun).0;
         }),
-  ))
+  )
 
   -- ---- the trace that is shown
 
@@ -181,9 +214,9 @@ module _ {T : Type 0} where
       )
 
   -- the trace behind the others
-  pub passed_over : (p : Inside T) (s : TraceStore T) (w : WindowBytes) → IsPassing p → 0 < p.next → s.head ≡ p.store.head → s.loaded ≡ p.store.loaded → traces_of s ≡ traces_of p.store ++ take p.next p.window.bytes ∷ [] → w.bytes ≡ drop p.next p.window.bytes
+  pub passed_over : (p : Inside T) (s : TraceStore T) (w : WindowBytes) → IsPassing p → 0 < p.next → s.head ≡ p.store.head → s.loaded ≡ p.store.loaded → traces_of s ≡ traces_of p.store ++ take p.next p.window.bytes ∷ [] → w.bytes ≡ drop p.next p.window.bytes → block_of w ≡ block_of p.window
       → IsPassing (record p { store = s; window = w; at = p.at + p.next; next = 0 })
-  passed_over p s w passing some head loaded traces rest =
+  passed_over p s w passing some head loaded traces rest same =
       let e : Extent = record { start = p.at; length = p.next } in
       let bytes : s.loaded.bytes ≡ p.store.loaded.bytes = ap (λ (l : HeldBytes). l.bytes) loaded in
       let size : length p.window.bytes ≡ length p.store.loaded.bytes - p.at = ap length passing.next.rest ∙ length-drop p.at p.store.loaded.bytes in
@@ -204,6 +237,9 @@ module _ {T : Type 0} where
           inside = omega (arith, ap length bytes, passing.next.inside, passing.shown, size);
           rest = rest ∙ (ap (drop p.next) passing.next.rest ∙ (drop-drop p.next p.at p.store.loaded.bytes ∙ ap (drop (p.at + p.next)) (sym bytes)));
         };
+        block = omega (arith, passing.block, same);
+        each = last_fits (traces_of p.store) (traces_of s) (take p.next p.window.bytes) (block_of w) traces (omega (arith, same, length-take p.next p.window.bytes))
+            (each_fits (traces_of p.store) (traces_of p.store) (block_of p.window) (block_of w) refl (omega (arith, same)) passing.each);
         room = omega (arith, passing.fits, ap (λ (h : Head). h.trailer) head);
         front = passing.front ∙ ap (take (length p.front.items)) (sym bytes);
         long = passing.long ∙ ap (λ (h : Head). h.traces_at) (sym head);
@@ -216,9 +252,9 @@ module _ {T : Type 0} where
 
   -- ---- the start
 
-  pub passing_begun : (p : Inside T) (h : Head) (read : List ℕ) → IsHeadOf read p.size p.reading p.limits h → length read ≤ p.size → take (length read) p.store.loaded.bytes ≡ read → p.store.head ≡ h → p.store.loaded.standing ≡ OnDisk true → length p.store.loaded.bytes ≤ p.size
-      → IsNextOf p.store.loaded.bytes h.traces_at p.window.bytes → p.front.items ≡ take h.traces_at p.store.loaded.bytes → traces_of p.store ≡ [] → p.at ≡ h.traces_at → p.next ≡ 0 → p.tail ≡ 0 → IsPassing p
-  passing_begun p h read told within begins head standing inside next front none at zero_next zero_tail =
+  pub passing_begun : (p : Inside T) (h : Head) (read : List ℕ) → IsHeadOf read p.size p.reading p.limits h → length read ≤ p.size → take (length read) p.store.loaded.bytes ≡ read → p.store.head ≡ h → p.store.loaded.standing ≡ OnPass → length p.store.loaded.bytes ≤ p.size
+      → IsNextOf p.store.loaded.bytes h.traces_at p.window.bytes → p.front.items ≡ take h.traces_at p.store.loaded.bytes → traces_of p.store ≡ [] → p.at ≡ h.traces_at → p.next ≡ 0 → p.tail ≡ 0 → 0 < block_of p.window → IsPassing p
+  passing_begun p h read told within begins head standing inside next front none at zero_next zero_tail block =
       let room = head_room read p.size p.reading p.limits h within told in
       let trailer : p.store.head.trailer ≡ h.trailer = ap (λ (x : Head). x.trailer) head in
       let place : p.store.head.traces_at ≡ h.traces_at = ap (λ (x : Head). x.traces_at) head in
@@ -233,6 +269,8 @@ module _ {T : Type 0} where
         standing = standing;
         within = inside;
         next = subst (λ (i : ℕ). IsNextOf p.store.loaded.bytes i p.window.bytes) (sym at) next;
+        block = block;
+        each = rw none (All-nil (λ (t : List ℕ). length t ≤ block_of p.window));
         room = omega (arith, room.0, trailer, at);
         front = front ∙ ap (λ (n : ℕ). take n p.store.loaded.bytes) (sym long);
         long = long ∙ sym place;

@@ -6,7 +6,7 @@ use Rattle.frame_cut.specs.Layout.{bytes_at, pieces, volume_at, AreTracesOf}
 use Rattle.frame_cut.specs.Volume.{bytes_of}
 use Rattle.trace_store.specs.Stores.{payloads_of, traces_of}
 use Rattle.volume_loading.specs.LoadedVolume.{LoadedVolume}
-use Rattle.edit_overlay.specs.Standings.{is_sure, loaded_in}
+use Rattle.edit_overlay.specs.Standings.{loaded_in, reads_in}
 use Rattle.volume_loading.specs.declared.loading.Loading.TheInside.{Inside}
 
 -- what is shown: the parts of the file
@@ -16,7 +16,7 @@ loaded_of l = record {
   payloads = payloads_of l.store;
   looks = l.looks;
   loaded = loaded_in l.store.loaded;
-  agreed = is_sure l.store.loaded.standing;
+  reads = reads_in l.store.loaded;
 }
 
 -- the file is in memory; the parts joined are the file, its traces lie one behind the other and are whole, and the store has

@@ -1,5 +1,5 @@
 -- A file that is loaded in one pass over it and stays on disk.
-use Rattle.std.specs.Prelude.{ℕ, ◌≡◌, ◌+◌, ◌*◌, ◌<◌, ◌≤◌, ◌⊎◌, true, IsTrue, List, [], ◌∷◌, ◌++◌, length, take}
+use Rattle.std.specs.Prelude.{ℕ, ◌≡◌, ◌+◌, ◌*◌, ◌<◌, ◌≤◌, ◌⊎◌, true, List, [], ◌∷◌, ◌++◌, length, take}
 use Rattle.text_block.specs.declared.block.TheConstants.{TEXT_BLOCK_BYTES}
 use Rattle.frame_cut.specs.declared.file_head.Head.{Head}
 use Rattle.frame_cut.specs.declared.limits.Limits.{Limits}
@@ -10,10 +10,11 @@ use Rattle.frame_cut.specs.Cuts.{IsRefused}
 use Rattle.frame_cut.specs.Fronts.{BeginsWith}
 use Rattle.frame_cut.specs.Volume.{bytes_of}
 use Rattle.edit_overlay.specs.CountedVolume.{CountedVolume}
+use Rattle.edit_overlay.specs.Reads.{HaveAgreed}
 
 -- what is shown of it: its head, how it is read and within which limits, how many bytes it has, those that were read so far,
 -- where the next trace begins, the traces so far with their payloads, the trace that is shown, no bytes where none is, how
--- many bytes of no trace stand there, once that is known, and how often a trace was shown
+-- many bytes of no trace stand there, once that is known, how often a trace was shown, and how many reads failed
 pub record PassedFile (T : Type 0) : Type 0 where
   pub head : Head
   pub reading : Reading
@@ -26,11 +27,13 @@ pub record PassedFile (T : Type 0) : Type 0 where
   pub shown : List ℕ
   pub tail : ℕ
   pub looks : ℕ
+  pub failures : ℕ
 
 module _ {T : Type 0} where
-  -- the same where these bytes were read and this trace is shown, or so many bytes of no trace stand there, after so many looks
-  abbrev pub with_shown : PassedFile T → List ℕ → List ℕ → ℕ → ℕ → PassedFile T
-  with_shown p read shown tail looks = record p { read = read; shown = shown; tail = tail; looks = looks }
+  -- the same where these bytes were read and this trace is shown, or so many bytes of no trace stand there, after so many looks,
+  -- and so many failed reads
+  abbrev pub with_shown : PassedFile T → List ℕ → List ℕ → (tail looks failures : ℕ) → PassedFile T
+  with_shown p read shown tail looks failures = record p { read = read; shown = shown; tail = tail; looks = looks; failures = failures }
 
   -- the same with the trace that is shown behind the others, with this payload
   abbrev pub with_passed : PassedFile T → T → PassedFile T
@@ -77,13 +80,21 @@ pub record IsPassed {T : Type 0} (p : PassedFile T) (o : CountedVolume T) : Type
   pub read : HasReadOn p.read o.loaded.bytes
   pub bytes : o.loaded.bytes ≡ bytes_of o.volume
   pub on_disk : o.loaded.on_disk ≡ true
-  pub agreed : IsTrue o.agreed
+  pub reads : HaveAgreed o.reads
 
 -- these bytes refuse each file of so many bytes which begins with them, for this reason
 abbrev pub IsRefusedBy : ℕ → Reading → Limits → List ℕ → LoadFault → Type 0
 IsRefusedBy size reading limits read fault =
     (length read ≤ size) × ((file : List ℕ) → BeginsWith read size file → IsRefused file reading limits fault)
 
--- a pass that has read these bytes is refused for this reason: a read failed, memory was refused, or they refuse the file
-abbrev pub IsPassFault : ℕ → Reading → Limits → List ℕ → LoadFault → Type 0
-IsPassFault size reading limits read fault = (fault ≡ ReadFailed) ⊎ (fault ≡ OutOfMemory) ⊎ IsRefusedBy size reading limits read fault
+-- a pass over a file that is said to have so many bytes may give up, where these were read: a read failed, or there are more
+abbrev pub MayGiveUp : (size : ℕ) (read : List ℕ) (failures : ℕ) → Type 0
+MayGiveUp size read failures = (0 < failures) ⊎ (size < length read)
+
+-- it gives up for this reason: for a read, where it may, or memory was refused
+abbrev pub IsGivenUp : (size : ℕ) (read : List ℕ) (failures : ℕ) → LoadFault → Type 0
+IsGivenUp size read failures fault = ((fault ≡ ReadFailed) × MayGiveUp size read failures) ⊎ (fault ≡ OutOfMemory)
+
+-- a pass that has read these bytes, where so many reads failed, is refused for this reason: it gives up, or the bytes refuse the file
+abbrev pub IsPassFault : (size : ℕ) → Reading → Limits → (read : List ℕ) (failures : ℕ) → LoadFault → Type 0
+IsPassFault size reading limits read failures fault = IsGivenUp size read failures fault ⊎ IsRefusedBy size reading limits read fault

@@ -1,7 +1,7 @@
 -- How a file is held while it is passed: its bytes so far, a window of those that are not taken yet, and a store of the
 -- traces so far. Nothing is known of the bytes that are not read yet: what is said holds of each file that begins with these.
-use Rattle.std.specs.Prelude.{ℕ, ◌≡◌, ◌+◌, ◌*◌, ◌<◌, ◌≤◌, true, List, length, take, Ok}
-use Rattle.base_file.specs.HeldBytes.{OnDisk}
+use Rattle.std.specs.Prelude.{ℕ, ◌≡◌, ◌+◌, ◌*◌, ◌<◌, ◌≤◌, All, List, length, take, Ok}
+use Rattle.base_file.specs.HeldBytes.{OnPass}
 use Rattle.text_block.specs.declared.block.TheConstants.{TEXT_BLOCK_BYTES}
 use Rattle.frame_cut.specs.declared.extent.Extent.{Extent}
 use Rattle.frame_cut.specs.declared.limits.Limits.{Limits}
@@ -13,7 +13,7 @@ use Rattle.frame_cut.specs.Cuts.{IsTail}
 use Rattle.frame_cut.specs.Walk.{left_at, AreWhole}
 use Rattle.trace_store.specs.declared.store.TraceStore.{TraceStore}
 use Rattle.trace_store.specs.Stores.{payloads_of, traces_of}
-use Rattle.trace_store.specs.Windows.{IsNextOf}
+use Rattle.trace_store.specs.Windows.{block_of, IsNextOf}
 use Rattle.volume_loading.specs.PassedFile.{PassedFile}
 use Rattle.volume_loading.specs.PassReads.{HasLengthAt}
 use Rattle.volume_loading.specs.declared.passing.Passing.TheInside.{Inside}
@@ -32,6 +32,7 @@ passed_of p = record {
   shown = take p.next p.window.bytes;
   tail = p.tail;
   looks = p.looks;
+  failures = p.store.loaded.failures;
 }
 
 -- the store has this head of the file, and its traces up to a place
@@ -44,9 +45,12 @@ pub record IsWalked {T : Type 0} (file : List ℕ) (reading : Reading) (limits :
 pub record IsPassing {T : Type 0} (p : Inside T) : Type 0 where
   pub extents : List Extent
   pub walked : (file : List ℕ) → BeginsWith p.store.loaded.bytes p.size file → IsWalked file p.reading p.limits p.store extents p.at
-  pub standing : p.store.loaded.standing ≡ OnDisk true
+  pub standing : p.store.loaded.standing ≡ OnPass
   pub within : length p.store.loaded.bytes ≤ p.size
   pub next : IsNextOf p.store.loaded.bytes p.at p.window.bytes
+  -- the window's block, which is never shorter than it was, becomes the room for later reads: each trace so far fits in it
+  pub block : 0 < block_of p.window
+  pub each : All (λ t. length t ≤ block_of p.window) (traces_of p.store)
   pub room : p.at + TEXT_BLOCK_BYTES * p.store.head.trailer ≤ p.size
   pub front : p.front.items ≡ take (length p.front.items) p.store.loaded.bytes
   pub long : length p.front.items ≡ p.store.head.traces_at

@@ -7,6 +7,7 @@ ghost use Rattle.frame_cut.specs.Cuts.{IsCut, IsRefused};
 ghost use Rattle.frame_cut.specs.Traces.{count_of};
 ghost use Rattle.frame_cut.specs.Volume.{bytes_of};
 ghost use Rattle.frame_cut.specs.declared.load_fault.LoadFault.TheVariants.{OutOfMemory as no_memory};
+ghost use Rattle.edit_overlay.specs.Reads.{HaveAgreed};
 ghost use Rattle.volume_loading.specs.Loading.{IsLoadFault, FailuresAfterRefusal, TakesWithin};
 ghost use Rattle.volume_loading.specs.LoadedVolume.{with_payload, overlay_of};
 
@@ -66,7 +67,7 @@ impl<T: Copy> Loading<T> {
         ensures looks { IfOk result (λ l. l.looks ≡ 0) }
         ensures in_memory { IfOk result (λ l. l.loaded.on_disk ≡ false) }
         ensures loaded { IfOk result (λ l. l.loaded.bytes ≡ bytes_of l.volume) }
-        ensures agreed { IfOk result (λ l. IsTrue l.agreed) }
+        ensures reads { IfOk result (λ l. HaveAgreed l.reads) }
         ensures refused { IfErr result (λ fault. IsLoadFault (R.remaining reader.old.inner) reading
             limits fault) }
         ensures read { IfErr result (λ _. TakesWithin (R.remaining reader.old.inner)
@@ -93,7 +94,7 @@ impl<T: Copy> Loading<T> {
         ensures looks { IfOk result (λ l. l.looks ≡ 0) }
         ensures in_memory { IfOk result (λ l. l.loaded.on_disk ≡ false) }
         ensures loaded { IfOk result (λ l. l.loaded.bytes ≡ bytes_of l.volume) }
-        ensures agreed { IfOk result (λ l. IsTrue l.agreed) }
+        ensures reads { IfOk result (λ l. HaveAgreed l.reads) }
         ensures refused { IfErr result (λ fault. (fault ≡ no_memory) ⊎
             IsRefused bytes.items reading limits fault) }
         ensures memory { Rises (IsErrOf result LoadFault.OutOfMemory) room.old room.new }

@@ -9,8 +9,8 @@ ghost use Rattle.frame_cut.specs.Heads.{head_of};
 ghost use Rattle.frame_cut.specs.Walk.{left_at};
 ghost use Rattle.trace_store.specs.Grown.{HasMore};
 ghost use Rattle.trace_store.specs.Stores.{traces_of};
-ghost use Rattle.trace_store.specs.Windows.{IsFaultOfPass, IsNextOf};
-ghost use Rattle.volume_loading.specs.PassReads.{HasLengthAt, IsHeadOf, IsHeadFault, IsTraceFault};
+ghost use Rattle.trace_store.specs.Windows.{block_of, IsFaultOfPass, IsNextOf};
+ghost use Rattle.volume_loading.specs.PassReads.{HasLengthAt, IsFaultOfHold, IsHeadOf, IsHeadFault, IsTraceFault};
 
 use base_file::Held;
 use frame_cut::{
@@ -39,7 +39,7 @@ pub fn read_head(
     ensures next { IsNextOf held.new.bytes 0 window.new.bytes }
     ensures within { length held.new.bytes ≤ size }
     ensures head { IfOk result (IsHeadOf held.new.bytes size reading limits) }
-    ensures refused { IfErr result (λ fault. IsFaultOfPass fault ⊎
+    ensures refused { IfErr result (λ fault. IsFaultOfHold size held.new fault ⊎
         IsHeadFault held.new.bytes size reading limits fault) }
     ensures memory { Rises (IsErrOf result LoadFault.OutOfMemory) room.old room.new }
 {
@@ -71,7 +71,9 @@ pub fn read_front(
     ensures next { OnOk result (IsNextOf held.new.bytes n window.new.bytes) }
     ensures within { length held.new.bytes ≤ size }
     ensures front { IfOk result (λ front. front.items ≡ take n held.new.bytes) }
-    ensures fault { IfErr result IsFaultOfPass }
+    ensures block { OnOk result (n ≤ block_of window.new) }
+    ensures reason { IfErr result IsFaultOfPass }
+    ensures fault { n ≤ size → IfErr result (IsFaultOfHold size held.new) }
     ensures memory { Rises (IsErrOf result LoadFault.OutOfMemory) room.old room.new }
 {
     window.hold(room, held, n, size)?;
@@ -99,6 +101,7 @@ pub fn next_whole<T: Copy>(
     requires some { at + TEXT_BLOCK_BYTES * store.old.head.trailer < size }
     ensures grown { HasMore store.old store.new }
     ensures next { IsNextOf store.new.loaded.bytes at window.new.bytes }
+    ensures block { block_of window.old ≤ block_of window.new }
     ensures within { length store.new.loaded.bytes ≤ size }
     ensures there { IfOk result (λ next. IfSome next (λ n. n ≤ length window.new.bytes)) }
     ensures fits { IfOk result (λ next. IfSome next
@@ -109,7 +112,7 @@ pub fn next_whole<T: Copy>(
     ensures kept { IfOk result (λ next. next ≡ None → (file : List ℕ) →
         BeginsWith store.new.loaded.bytes size file →
         IsTail reading store.old.head (left_at file store.old.head at)) }
-    ensures refused { IfErr result (λ fault. IsFaultOfPass fault ⊎
+    ensures refused { IfErr result (λ fault. IsFaultOfHold size store.new.loaded fault ⊎
         IsTraceFault store.new.loaded.bytes size reading store.old.head limits
         (length (traces_of store.old) + 1) at fault) }
     ensures memory { Rises (IsErrOf result LoadFault.OutOfMemory) room.old room.new }
@@ -140,8 +143,11 @@ pub fn skip_bytes<T: Copy>(
     ensures grown { HasMore store.old store.new }
     ensures next { OnOk result ((at : ℕ) → IsNextOf store.old.loaded.bytes at window.old.bytes →
         IsNextOf store.new.loaded.bytes (at + n) window.new.bytes) }
+    ensures block { block_of window.old ≤ block_of window.new }
     ensures within { length store.new.loaded.bytes ≤ size }
-    ensures fault { IfErr result IsFaultOfPass }
+    ensures reason { IfErr result IsFaultOfPass }
+    ensures fault { (at : ℕ) → IsNextOf store.old.loaded.bytes at window.old.bytes →
+        at + n ≤ size → IfErr result (IsFaultOfHold size store.new.loaded) }
     ensures memory { Rises (IsErrOf result LoadFault.OutOfMemory) room.old room.new }
 {
     let mut left = n;
@@ -167,9 +173,10 @@ pub fn last_bytes<T: Copy>(
     requires within { length store.old.loaded.bytes ≤ size }
     requires inside { at ≤ size }
     ensures grown { HasMore store.old store.new }
+    ensures block { block_of window.old ≤ block_of window.new }
     ensures all { OnOk result (length store.new.loaded.bytes ≡ size) }
     ensures back { IfOk result (λ back. back.items ≡ drop at store.new.loaded.bytes) }
-    ensures fault { IfErr result IsFaultOfPass }
+    ensures fault { IfErr result (IsFaultOfHold size store.new.loaded) }
     ensures memory { Rises (IsErrOf result LoadFault.OutOfMemory) room.old room.new }
 {
     let n = (size - at) as usize;

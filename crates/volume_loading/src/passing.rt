@@ -3,10 +3,9 @@ ghost use Rattle.std.specs.Prelude.{ℕ, ◌≡◌, ◌⊎◌, ◌+◌, ◌<◌,
 ghost use Rattle.room.specs.Refusals.{Rises};
 ghost use Rattle.frame_cut.specs.Cuts.{IsCut, IsTrace};
 ghost use Rattle.frame_cut.specs.Volume.{bytes_of};
-ghost use Rattle.trace_store.specs.Windows.{IsFaultOfPass};
 ghost use Rattle.trace_view.specs.Shown.{head_of, bytes_of as shown_bytes};
 ghost use Rattle.edit_overlay.specs.CountedVolume.{one_more};
-ghost use Rattle.volume_loading.specs.PassedFile.{with_passed, with_shown, HasAllTraces, HasShownInside, HasReadOn, IsBegun, IsPassed, IsPassFault};
+ghost use Rattle.volume_loading.specs.PassedFile.{with_passed, with_shown, HasAllTraces, HasShownInside, HasReadOn, IsBegun, IsGivenUp, IsPassed, IsPassFault};
 
 use crate::pass_reads::{last_bytes, next_whole, read_front, read_head, skip_bytes};
 use base_file::Held;
@@ -68,7 +67,8 @@ impl<T: Copy> Passing<T> {
         limits: Limits,
     ) -> Result<Passing<T>, PassFault>
         ensures begun { IfOk result (IsBegun size reading limits) }
-        ensures refused { IfErr result (λ e. IsPassFault size reading limits e.read e.fault) }
+        ensures refused { IfErr result
+            (λ e. IsPassFault size reading limits e.read e.failures e.fault) }
         ensures memory { Rises (IsErrAnd result (λ e. e.fault ≡ LoadFault.OutOfMemory)) room.old
             room.new }
     {
@@ -111,7 +111,7 @@ impl<T: Copy> Passing<T> {
     /// none is shown then.
     pub fn next_trace(&mut self, room: &mut Room) -> Result<bool, LoadFault>
         ensures same { self.new ≡ with_shown self.old self.new.read self.new.shown self.new.tail
-            self.new.looks }
+            self.new.looks self.new.failures }
         ensures on { HasReadOn self.old.read self.new.read }
         ensures trace { IfOk result (λ more. IsTrue more → IsTrace self.new.head self.new.shown) }
         ensures inside { IfOk result (λ more. IsTrue more → HasShownInside self.new) }
@@ -120,8 +120,10 @@ impl<T: Copy> Passing<T> {
         ensures end { IfOk result (λ more. IsFalse more → HasAllTraces self.new) }
         ensures unseen { IfOk result (λ more. IsFalse more → self.new.looks ≡ self.old.looks) }
         ensures refused { IfErr result
-            (IsPassFault self.old.size self.old.reading self.old.limits self.new.read) }
+            (IsPassFault self.old.size self.old.reading self.old.limits self.new.read
+            self.new.failures) }
         ensures failed { OnErr result (self.new.looks ≡ self.old.looks) }
+        ensures failures { self.old.failures ≤ self.new.failures }
         ensures memory { Rises (IsErrOf result LoadFault.OutOfMemory) room.old room.new }
     {
         self.next = 0;
@@ -194,6 +196,7 @@ impl<T: Copy> Passing<T> {
     pub fn refuse(self, fault: LoadFault) -> PassFault
         ensures fault { result.fault ≡ fault }
         ensures read { result.read ≡ self.read }
+        ensures failures { result.failures ≡ self.failures }
     {
         PassFault::of(fault, self.store.loaded)
     }
@@ -208,7 +211,7 @@ impl<T: Copy> Passing<T> {
             (λ o. IsCut (bytes_of o.volume) self.reading self.limits o.volume) }
         ensures size { IfOk result (λ o. length (bytes_of o.volume) ≡ self.size) }
         ensures passed { IfOk result (IsPassed self) }
-        ensures refused { IfErr result (λ e. IsFaultOfPass e.fault) }
+        ensures refused { IfErr result (λ e. IsGivenUp self.size e.read e.failures e.fault) }
         ensures read { IfErr result (λ e. HasReadOn self.read e.read) }
         ensures memory { Rises (IsErrAnd result (λ e. e.fault ≡ LoadFault.OutOfMemory)) room.old
             room.new }

@@ -1,5 +1,5 @@
 -- The record of a trace that is looked at.
-use Rattle.std.proofs.Common.{◌≡◌, ℕ, ◌+◌, ◌-◌, ◌≤◌, ◌^◌, Bool, true, false, IsTrue, List, length, refl, subst, sym, ap, ap₂, ◌∙◌, arith}
+use Rattle.std.proofs.Common.{◌≡◌, ℕ, ◌+◌, ◌-◌, ◌≤◌, ◌^◌, Bool, true, false, List, length, refl, subst, sym, ap, ap₂, ◌∙◌, arith}
 use Rattle.std.specs.Prelude.{nat_lt, if◌then◌else◌, Result, Ok, Err, IfOk}
 use Rattle.field_map.specs.Maps.{NameMap}
 use Rattle.field_map.specs.Binding.{HasGeometry}
@@ -12,6 +12,7 @@ use Rattle.trace_view.specs.Shown.{head_of, bytes_of}
 use Rattle.trace_record.specs.OfTrace.{has_geometry}
 use Rattle.trace_record.proofs.GeometryLemmas.{geometry_of_each_trace}
 use Rattle.edit_overlay.specs.CountedVolume.{CountedVolume, one_more, RisesAtMost, after_look, IsSeen, IsViewOf, HasShapeOf}
+use Rattle.edit_overlay.specs.Reads.{Follow}
 use Rattle.volume_records.proofs.FewLemmas.{samples_within}
 
 -- what holds of a value holds of what follows from it
@@ -59,10 +60,10 @@ rises_more old now last n rose is =
 module _ {T : Type 0} where
   -- an overlay is as it was
   pub seen_none : (o : CountedVolume T) → IsSeen o o 0
-  seen_none o = record { volume = refl; prepared = refl; payloads = refl; payloads_prepared = refl; loaded = refl; looks = (omega arith, omega arith); agreed = λ sure. sure }
+  seen_none o = record { volume = refl; prepared = refl; payloads = refl; payloads_prepared = refl; loaded = refl; looks = (omega arith, omega arith); reads = record { agreed = λ sure. sure; failures = omega arith } }
 
   -- after one look more
-  pub seen_more : (old now last : CountedVolume T) (n : ℕ) → IsSeen old now n → last ≡ after_look now last.agreed → (IsTrue last.agreed → IsTrue now.agreed) → IsSeen old last (n + 1)
+  pub seen_more : (old now last : CountedVolume T) (n : ℕ) → IsSeen old now n → last ≡ after_look now last.reads → Follow now.reads last.reads → IsSeen old last (n + 1)
   seen_more old now last n seen look fell =
       record {
         volume = ap (λ (o : CountedVolume T). o.volume) look ∙ seen.volume;
@@ -71,7 +72,7 @@ module _ {T : Type 0} where
         payloads_prepared = ap (λ (o : CountedVolume T). o.payloads_prepared) look ∙ seen.payloads_prepared;
         loaded = ap (λ (o : CountedVolume T). o.loaded) look ∙ seen.loaded;
         looks = rises_more old.looks now.looks last.looks n seen.looks (ap (λ (o : CountedVolume T). o.looks) look);
-        agreed = λ sure. seen.agreed (fell sure);
+        reads = record { agreed = λ sure. seen.reads.agreed (fell.agreed sure); failures = omega (arith, seen.reads.failures, fell.failures) };
       }
 
   -- after some looks and then some more
@@ -86,7 +87,7 @@ module _ {T : Type 0} where
         payloads_prepared = more.payloads_prepared ∙ seen.payloads_prepared;
         loaded = more.loaded ∙ seen.loaded;
         looks = (omega (arith, rose, again), omega (arith, rose, again));
-        agreed = λ sure. seen.agreed (more.agreed sure);
+        reads = record { agreed = λ sure. seen.reads.agreed (more.reads.agreed sure); failures = omega (arith, seen.reads.failures, more.reads.failures) };
       }
 
   -- after at most so many
@@ -100,5 +101,5 @@ module _ {T : Type 0} where
         payloads_prepared = seen.payloads_prepared;
         loaded = seen.loaded;
         looks = (rose.0, omega (arith, rose.1, less));
-        agreed = seen.agreed;
+        reads = seen.reads;
       }

@@ -39,7 +39,7 @@ pub fn commit_with_record(
         × AreReportsOf reports.new (map record_in overlay.old.payloads)) }
     ensures prepared { overlay.new.prepared ≡ overlay.new.volume }
     ensures loaded { overlay.new.loaded ≡ overlay.old.loaded }
-    ensures agreed { overlay.new.agreed ≡ overlay.old.agreed }
+    ensures reads { overlay.new.reads ≡ overlay.old.reads }
     ensures looks { overlay.new.looks ≡ overlay.old.looks }
     ensures memory { Rises (IsErr result) room.old room.new }
 {
@@ -83,7 +83,7 @@ pub fn commit_with_records(
         × AreReportsOf reports.new (map record_in overlay.old.payloads)) }
     ensures prepared { overlay.new.prepared ≡ overlay.new.volume }
     ensures loaded { overlay.new.loaded ≡ overlay.old.loaded }
-    ensures agreed { overlay.new.agreed ≡ overlay.old.agreed }
+    ensures reads { overlay.new.reads ≡ overlay.old.reads }
     ensures looks { overlay.new.looks ≡ overlay.old.looks }
     ensures memory { Rises (IsErr result) room.old room.new }
 {

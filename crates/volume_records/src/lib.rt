@@ -23,7 +23,8 @@
 //! `RecordsFault`.
 //!
 //! That records are those of the traces is claimed where each read since the load gave the bytes
-//! that the load read (`agreed`); how many there are, and how many samples they tell, in any case.
+//! that the load read (`HaveAgreed`); how many there are, and how many samples they tell, in any
+//! case.
 #![tactic(auto)]
 
 mod committing;

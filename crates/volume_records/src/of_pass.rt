@@ -1,4 +1,4 @@
-ghost use Rattle.std.specs.Prelude.{◌≡◌, ◌+◌, ◌<◌, true, [], IfErr, IfOk, IsTrue, OnErr, OnOk, length, map, IsErrAnd, IsErrOf};
+ghost use Rattle.std.specs.Prelude.{◌≡◌, ◌+◌, ◌<◌, true, [], IfErr, IfOk, OnErr, OnOk, length, map, IsErrAnd, IsErrOf};
 ghost use Rattle.room.specs.Refusals.{Rises};
 ghost use Rattle.frame_cut.specs.Cuts.{IsCut};
 ghost use Rattle.frame_cut.specs.Traces.{count_of};
@@ -7,6 +7,7 @@ ghost use Rattle.trace_record.specs.Facts.{facts_of};
 ghost use Rattle.trace_record.specs.OfTrace.{record_of as record_of_trace};
 ghost use Rattle.trace_record.specs.Packed.{record_in};
 ghost use Rattle.edit_overlay.specs.CountedVolume.{RisesAtMost};
+ghost use Rattle.edit_overlay.specs.Reads.{HaveAgreed};
 ghost use Rattle.volume_loading.specs.PassedFile.{HasAllTraces, HasReadOn, IsPassFault};
 ghost use Rattle.live_reports.specs.OfRecords.{AreReportsOf};
 ghost use Rattle.volume_records.specs.OfPass.{HasRecords, IsSameFile};
@@ -45,11 +46,12 @@ pub fn with_records_on_disk(
     ensures prepared { IfOk result (λ r. r.0.prepared ≡ r.0.volume) }
     ensures looks { IfOk result
         (λ r. RisesAtMost passing.looks r.0.looks (count_of r.0.volume)) }
-    ensures standing { IfOk result (λ r. (r.0.loaded.on_disk ≡ true) × IsTrue r.0.agreed) }
+    ensures standing { IfOk result (λ r. (r.0.loaded.on_disk ≡ true) × HaveAgreed r.0.reads) }
     ensures bytes { IfOk result (λ r. r.0.loaded.bytes ≡ bytes_of r.0.volume) }
     ensures on { IfOk result (λ r. HasReadOn passing.read r.0.loaded.bytes) }
     ensures refused { IfErr result
-        (λ e. IsPassFault passing.size passing.reading passing.limits e.read e.fault) }
+        (λ e. IsPassFault passing.size passing.reading passing.limits e.read e.failures
+        e.fault) }
     ensures read { IfErr result (λ e. HasReadOn passing.read e.read) }
     ensures memory { Rises (IsErrAnd result (λ e. e.fault ≡
         LoadFault.OutOfMemory)) room.old room.new }
@@ -87,7 +89,8 @@ fn pass_records(
     ensures looks { OnOk result
         (RisesAtMost passing.old.looks passing.new.looks (length passing.new.traces)) }
     ensures refused { IfErr result
-        (IsPassFault passing.old.size passing.old.reading passing.old.limits passing.new.read) }
+        (IsPassFault passing.old.size passing.old.reading passing.old.limits passing.new.read
+        passing.new.failures) }
     ensures memory { Rises (IsErrOf result LoadFault.OutOfMemory) room.old room.new }
 {
     'turns: loop {

@@ -5,6 +5,7 @@ ghost use Rattle.trace_record.specs.Facts.{facts_of, with_samples_of};
 ghost use Rattle.trace_record.specs.OfTrace.{record_of as record_of_trace};
 ghost use Rattle.trace_record.specs.Told.{tells_record};
 ghost use Rattle.edit_overlay.specs.CountedVolume.{after_look, IsSeen};
+ghost use Rattle.edit_overlay.specs.Reads.{Follow, HaveAgreed, IsFaultOfLook};
 ghost use Rattle.volume_records.specs.Laid.{HasSamplesOf, IsLaid};
 
 use crate::laid::laid_record;
@@ -24,13 +25,14 @@ pub fn prepared_record(
 ) -> Result<Record, ReadFault>
     requires trace { IsTrue (is_trace overlay.old.prepared p) }
     requires fields { fields.now.extensions ≡ overlay.old.prepared.head.extensions }
-    ensures record { IfOk result (λ r. IsTrue overlay.new.agreed →
+    ensures record { IfOk result (λ r. HaveAgreed overlay.new.reads →
         facts_of r ≡ record_of_trace overlay.old.prepared.head fields.now.pairs
         (trace_at overlay.old.prepared p)) }
     ensures few { IfOk result (λ r. r.number ≤ length (trace_at overlay.old.prepared p)) }
-    ensures looked { overlay.new ≡ after_look overlay.old overlay.new.agreed }
-    ensures agreed { IsTrue overlay.new.agreed → IsTrue overlay.old.agreed }
+    ensures looked { overlay.new ≡ after_look overlay.old overlay.new.reads }
+    ensures reads { Follow overlay.old.reads overlay.new.reads }
     ensures read { IfErr result (λ _. IsTrue overlay.old.loaded.on_disk) }
+    ensures fault { IfErr result (IsFaultOfLook overlay.old.reads overlay.new.reads) }
 {
     fields.geometry_stands();
     let Some(trace) = overlay.look_prepared(p)? else {
@@ -51,13 +53,14 @@ pub fn prepared_headers(
 ) -> Result<Record, ReadFault>
     requires trace { IsTrue (is_trace overlay.old.prepared p) }
     requires fields { fields.now.extensions ≡ overlay.old.prepared.head.extensions }
-    ensures record { IfOk result (λ r. IsTrue overlay.new.agreed → facts_of r ≡ with_samples_of
+    ensures record { IfOk result (λ r. HaveAgreed overlay.new.reads → facts_of r ≡ with_samples_of
         (record_of_trace overlay.old.prepared.head fields.now.pairs
         (trace_at overlay.old.prepared p)) (facts_of samples.now)) }
     ensures number { IfOk result (λ r. r.number ≡ samples.now.number) }
-    ensures looked { overlay.new ≡ after_look overlay.old overlay.new.agreed }
-    ensures agreed { IsTrue overlay.new.agreed → IsTrue overlay.old.agreed }
+    ensures looked { overlay.new ≡ after_look overlay.old overlay.new.reads }
+    ensures reads { Follow overlay.old.reads overlay.new.reads }
     ensures read { IfErr result (λ _. IsTrue overlay.old.loaded.on_disk) }
+    ensures fault { IfErr result (IsFaultOfLook overlay.old.reads overlay.new.reads) }
 {
     fields.geometry_stands();
     let Some(headers) = overlay.look_prepared(p)? else {
@@ -84,9 +87,9 @@ pub fn laid_headers(
 ) -> Result<Record, ReadFault>
     requires trace { IsTrue (is_trace overlay.old.prepared p) }
     requires fields { fields.now.extensions ≡ overlay.old.prepared.head.extensions }
-    requires laid { IsTrue overlay.old.agreed → IsLaid overlay.old.volume overlay.old.prepared
+    requires laid { HaveAgreed overlay.old.reads → IsLaid overlay.old.volume overlay.old.prepared
         fields.now.pairs p at bytes.now known.now }
-    ensures record { IfOk result (λ r. IsTrue overlay.new.agreed → facts_of r ≡ with_samples_of
+    ensures record { IfOk result (λ r. HaveAgreed overlay.new.reads → facts_of r ≡ with_samples_of
         (record_of_trace overlay.old.prepared.head fields.now.pairs
         (trace_at overlay.old.prepared p)) (facts_of known.now)) }
     ensures number { IfOk result (λ r. r.number ≡ known.now.number) }
@@ -94,6 +97,7 @@ pub fn laid_headers(
     ensures told { IsTrue (tells_record fields.now.pairs at (length bytes.now)) →
         IsOk result × (overlay.new ≡ overlay.old) }
     ensures read { IfErr result (λ _. IsTrue overlay.old.loaded.on_disk) }
+    ensures fault { IfErr result (IsFaultOfLook overlay.old.reads overlay.new.reads) }
 {
     let order = overlay.head().order;
     match laid_record(known, order, fields, at, bytes) {
@@ -117,17 +121,18 @@ pub fn record_after(
 ) -> Result<Record, ReadFault>
     requires trace { IsTrue (is_trace overlay.old.prepared p) }
     requires fields { fields.now.extensions ≡ overlay.old.prepared.head.extensions }
-    requires laid { IsTrue overlay.old.agreed → IfSome known (IsLaid overlay.old.volume
+    requires laid { HaveAgreed overlay.old.reads → IfSome known (IsLaid overlay.old.volume
         overlay.old.prepared fields.now.pairs p at bytes.now) }
-    requires samples { IsTrue overlay.old.agreed → IfSome known (HasSamplesOf
+    requires samples { HaveAgreed overlay.old.reads → IfSome known (HasSamplesOf
         overlay.old.prepared.head fields.now.pairs (trace_at overlay.old.prepared p)) }
     requires few { IfSome known (λ r. r.number ≤ length (trace_at overlay.old.prepared p)) }
-    ensures record { IfOk result (λ r. IsTrue overlay.new.agreed →
+    ensures record { IfOk result (λ r. HaveAgreed overlay.new.reads →
         facts_of r ≡ record_of_trace overlay.old.prepared.head fields.now.pairs
         (trace_at overlay.old.prepared p)) }
     ensures few { IfOk result (λ r. r.number ≤ length (trace_at overlay.old.prepared p)) }
     ensures seen { IsSeen overlay.old overlay.new 1 }
     ensures read { IfErr result (λ _. IsTrue overlay.old.loaded.on_disk) }
+    ensures fault { IfErr result (IsFaultOfLook overlay.old.reads overlay.new.reads) }
     ensures told { IsSome known → IsTrue (tells_record fields.now.pairs at (length bytes.now)) →
         IsOk result × (overlay.new ≡ overlay.old) }
 {

@@ -5,7 +5,8 @@ ghost use Rattle.trace_record.specs.Facts.{facts_of};
 ghost use Rattle.trace_record.specs.Packed.{record_in};
 ghost use Rattle.trace_record.specs.Told.{tells_record};
 ghost use Rattle.edit_overlay.specs.CountedVolume.{IsSeen};
-ghost use Rattle.volume_records.specs.Faults.{IsOfRead};
+ghost use Rattle.edit_overlay.specs.Reads.{HaveAgreed};
+ghost use Rattle.volume_records.specs.Faults.{IsFaultOfRecords, IsOfRead};
 ghost use Rattle.volume_records.specs.Laid.{AreLaid};
 ghost use Rattle.volume_records.specs.OfVolume.{headers_of, records_of};
 
@@ -46,9 +47,9 @@ pub fn prepared_records(
     requires some { 0 < size }
     requires exact { length bytes.now % size ≡ 0 }
     requires parts { length bytes.now / size ≡ count }
-    requires laid { IsTrue overlay.old.agreed →
+    requires laid { HaveAgreed overlay.old.reads →
         AreLaid overlay.old fields.now.pairs a count at size bytes.now }
-    ensures records { IfOk result (λ records. IsTrue overlay.new.agreed →
+    ensures records { IfOk result (λ records. HaveAgreed overlay.new.reads →
         map facts_of records ≡ take count (drop (a - 1)
         (headers_of overlay.old.prepared fields.now.pairs
         (map facts_of (map record_in overlay.old.payloads))))) }
@@ -59,6 +60,7 @@ pub fn prepared_records(
     ensures told { IsTrue (tells_record fields.now.pairs at size) →
         (overlay.new ≡ overlay.old) × IfErr result (λ fault. IsOfRead fault → ⊥) }
     ensures read { IfErr result (λ fault. IsOfRead fault → IsTrue overlay.old.loaded.on_disk) }
+    ensures fault { IfErr result (IsFaultOfRecords overlay.old.reads overlay.new.reads) }
     ensures memory { Rises (IsErrOf result RecordsFault.OutOfMemory) room.old room.new }
 {
     // Read for the proof alone, which learns that the traces are counted in 32 bits.
@@ -88,7 +90,7 @@ pub fn prepared_whole_records(
     requires last { a - 1 + count ≤ count_of overlay.old.prepared }
     requires held { a - 1 + count ≤ count_of overlay.old.volume }
     requires fields { fields.now.extensions ≡ overlay.old.prepared.head.extensions }
-    ensures records { IfOk result (λ records. IsTrue overlay.new.agreed →
+    ensures records { IfOk result (λ records. HaveAgreed overlay.new.reads →
         map facts_of records ≡ take count (drop (a - 1)
         (records_of overlay.old.prepared fields.now.pairs))) }
     ensures many { IfOk result (λ records. length records ≡ count) }
@@ -97,6 +99,7 @@ pub fn prepared_whole_records(
         length (trace_at overlay.old.prepared (a + k))) }
     ensures seen { IsSeen overlay.old overlay.new count }
     ensures read { IfErr result (λ fault. IsOfRead fault → IsTrue overlay.old.loaded.on_disk) }
+    ensures fault { IfErr result (IsFaultOfRecords overlay.old.reads overlay.new.reads) }
     ensures memory { Rises (IsErrOf result RecordsFault.OutOfMemory) room.old room.new }
 {
     // Read for the proof alone, which learns that the traces are counted in 32 bits.

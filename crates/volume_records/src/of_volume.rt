@@ -39,7 +39,7 @@ pub fn with_records(
     ensures looks { IfOk result
         (λ r. RisesAtMost loading.looks r.0.looks (count_of loading.volume)) }
     ensures standing { IfOk result (λ r. (r.0.loaded ≡ loading.loaded) ×
-        (r.0.agreed ≡ loading.agreed)) }
+        (r.0.reads ≡ loading.reads)) }
     ensures memory { Rises (IsErr result) room.old room.new }
 {
     let mut loading = loading;
@@ -74,7 +74,7 @@ fn push_records(
     ensures volume { loading.new.volume ≡ loading.old.volume }
     ensures looks { RisesAtMost loading.old.looks loading.new.looks (count_of loading.old.volume) }
     ensures loaded { loading.new.loaded ≡ loading.old.loaded }
-    ensures agreed { loading.new.agreed ≡ loading.old.agreed }
+    ensures reads { loading.new.reads ≡ loading.old.reads }
     ensures memory { Rises (IsErr result) room.old room.new }
 {
     for _k in 0..loading.count() {

@@ -7,9 +7,10 @@ ghost use Rattle.trace_record.specs.Facts.{facts_of};
 ghost use Rattle.trace_record.specs.OfTrace.{record_of as record_of_trace};
 ghost use Rattle.trace_record.specs.Packed.{record_in};
 ghost use Rattle.edit_overlay.specs.CountedVolume.{RisesAtMost, after_look};
+ghost use Rattle.edit_overlay.specs.Reads.{Follow, HaveAgreed, IsFaultOfLook};
 ghost use Rattle.live_reports.specs.Exchanged.{with_records};
 ghost use Rattle.live_reports.specs.OfRecords.{AreReportsOf};
-ghost use Rattle.volume_records.specs.Faults.{IsOfRead};
+ghost use Rattle.volume_records.specs.Faults.{IsFaultOfRecords, IsOfRead};
 ghost use Rattle.volume_records.specs.OfVolume.{numbers_of, records_of};
 
 use crate::RecordsFault;
@@ -33,7 +34,7 @@ pub fn set_records(overlay: &mut Overlay<PackedRecord>, a: u32, records: &Record
     ensures prepared { overlay.new.prepared ≡ overlay.old.volume }
     ensures looks { overlay.new.looks ≡ overlay.old.looks }
     ensures loaded { overlay.new.loaded ≡ overlay.old.loaded }
-    ensures agreed { overlay.new.agreed ≡ overlay.old.agreed }
+    ensures reads { overlay.new.reads ≡ overlay.old.reads }
 {
     // Read for the proof alone, which learns that the traces are counted in 32 bits.
     let _count = overlay.count();
@@ -59,7 +60,7 @@ pub fn remake(
     requires each { length overlay.old.payloads ≡ count_of overlay.old.volume }
     requires none { overlay.old.prepared ≡ overlay.old.volume }
     requires fields { fields.now.extensions ≡ overlay.old.volume.head.extensions }
-    ensures records { OnOk result (IsTrue overlay.new.agreed →
+    ensures records { OnOk result (HaveAgreed overlay.new.reads →
         map facts_of (map record_in overlay.new.payloads) ≡
         records_of overlay.old.volume fields.now.pairs) }
     ensures reports { IfOk result (λ r. AreReportsOf r (map record_in overlay.new.payloads)) }
@@ -70,12 +71,13 @@ pub fn remake(
         (map record_in overlay.new.payloads ≡ map record_in overlay.old.payloads) }
     ensures read { IfErr result (λ fault. IsOfRead fault → IsTrue overlay.old.loaded.on_disk
         × (0 < count_of overlay.old.volume)) }
+    ensures fault { IfErr result (IsFaultOfRecords overlay.old.reads overlay.new.reads) }
     ensures each { length overlay.new.payloads ≡ count_of overlay.old.volume }
     ensures volume { overlay.new.volume ≡ overlay.old.volume }
     ensures prepared { overlay.new.prepared ≡ overlay.old.volume }
     ensures loaded { overlay.new.loaded ≡ overlay.old.loaded }
     ensures looks { RisesAtMost overlay.old.looks overlay.new.looks (count_of overlay.old.volume) }
-    ensures agreed { IsTrue overlay.new.agreed → IsTrue overlay.old.agreed }
+    ensures reads { Follow overlay.old.reads overlay.new.reads }
     ensures memory { Rises (IsErrOf result RecordsFault.OutOfMemory) room.old room.new }
 {
     let held = copied(room, overlay)?;
@@ -98,7 +100,7 @@ fn remade(
     requires each { length overlay.old.payloads ≡ count_of overlay.old.volume }
     requires none { overlay.old.prepared ≡ overlay.old.volume }
     requires fields { fields.now.extensions ≡ overlay.old.volume.head.extensions }
-    ensures records { OnOk result (IsTrue overlay.new.agreed →
+    ensures records { OnOk result (HaveAgreed overlay.new.reads →
         map facts_of (map record_in overlay.new.payloads) ≡
         records_of overlay.old.volume fields.now.pairs) }
     ensures reports { IfOk result (λ r. AreReportsOf r (map record_in overlay.new.payloads)) }
@@ -107,12 +109,13 @@ fn remade(
         length (slice_index_or overlay.old.volume.traces j [])) }
     ensures read { IfErr result (λ fault. IsOfRead fault → IsTrue overlay.old.loaded.on_disk
         × (0 < count_of overlay.old.volume)) }
+    ensures fault { IfErr result (IsFaultOfRecords overlay.old.reads overlay.new.reads) }
     ensures each { length overlay.new.payloads ≡ count_of overlay.old.volume }
     ensures volume { overlay.new.volume ≡ overlay.old.volume }
     ensures prepared { overlay.new.prepared ≡ overlay.old.volume }
     ensures loaded { overlay.new.loaded ≡ overlay.old.loaded }
     ensures looks { RisesAtMost overlay.old.looks overlay.new.looks (count_of overlay.old.volume) }
-    ensures agreed { IsTrue overlay.new.agreed → IsTrue overlay.old.agreed }
+    ensures reads { Follow overlay.old.reads overlay.new.reads }
     ensures memory { Rises (IsErrOf result RecordsFault.OutOfMemory) room.old room.new }
 {
     renew(overlay, fields)?;
@@ -137,7 +140,7 @@ fn renew(overlay: &mut Overlay<PackedRecord>, fields: &FieldMap) -> Result<(), R
     requires each { length overlay.old.payloads ≡ count_of overlay.old.volume }
     requires none { overlay.old.prepared ≡ overlay.old.volume }
     requires fields { fields.now.extensions ≡ overlay.old.volume.head.extensions }
-    ensures records { OnOk result (IsTrue overlay.new.agreed →
+    ensures records { OnOk result (HaveAgreed overlay.new.reads →
         map facts_of (map record_in overlay.new.payloads) ≡
         records_of overlay.old.volume fields.now.pairs) }
     ensures within { OnOk result ((j : ℕ) → j < count_of overlay.old.volume →
@@ -146,12 +149,13 @@ fn renew(overlay: &mut Overlay<PackedRecord>, fields: &FieldMap) -> Result<(), R
     ensures few { count_of overlay.old.volume < 2 ^ 32 }
     ensures read { IfErr result (λ _. IsTrue overlay.old.loaded.on_disk
         × (0 < count_of overlay.old.volume)) }
+    ensures fault { IfErr result (IsFaultOfLook overlay.old.reads overlay.new.reads) }
     ensures each { length overlay.new.payloads ≡ count_of overlay.old.volume }
     ensures volume { overlay.new.volume ≡ overlay.old.volume }
     ensures prepared { overlay.new.prepared ≡ overlay.old.volume }
     ensures loaded { overlay.new.loaded ≡ overlay.old.loaded }
     ensures looks { RisesAtMost overlay.old.looks overlay.new.looks (count_of overlay.old.volume) }
-    ensures agreed { IsTrue overlay.new.agreed → IsTrue overlay.old.agreed }
+    ensures reads { Follow overlay.old.reads overlay.new.reads }
 {
     for k in 0..overlay.count() {
         let record = seen_record(overlay, fields, k + 1)?;
@@ -168,13 +172,14 @@ fn seen_record(
 ) -> Result<Record, ReadFault>
     requires trace { IsTrue (is_trace overlay.old.volume p) }
     requires fields { fields.now.extensions ≡ overlay.old.volume.head.extensions }
-    ensures record { IfOk result (λ r. IsTrue overlay.new.agreed →
+    ensures record { IfOk result (λ r. HaveAgreed overlay.new.reads →
         facts_of r ≡ record_of_trace overlay.old.volume.head fields.now.pairs
         (trace_at overlay.old.volume p)) }
     ensures few { IfOk result (λ r. r.number ≤ length (trace_at overlay.old.volume p)) }
-    ensures looked { overlay.new ≡ after_look overlay.old overlay.new.agreed }
-    ensures agreed { IsTrue overlay.new.agreed → IsTrue overlay.old.agreed }
+    ensures looked { overlay.new ≡ after_look overlay.old overlay.new.reads }
+    ensures reads { Follow overlay.old.reads overlay.new.reads }
     ensures read { IfErr result (λ _. IsTrue overlay.old.loaded.on_disk) }
+    ensures fault { IfErr result (IsFaultOfLook overlay.old.reads overlay.new.reads) }
 {
     fields.geometry_stands();
     let Some(trace) = overlay.look(p)? else {

@@ -4,6 +4,7 @@ ghost use Rattle.frame_cut.specs.Cuts.{IsTrace};
 ghost use Rattle.frame_cut.specs.Splice.{splice};
 ghost use Rattle.frame_cut.specs.Traces.{trace_at, is_trace as has_trace};
 ghost use Rattle.edit_overlay.specs.CountedVolume.{IsSeen};
+ghost use Rattle.edit_overlay.specs.Reads.{HaveAgreed};
 
 use edit_overlay::Overlay;
 use frame_cut::{Head, front_length, trace_length};
@@ -26,7 +27,7 @@ pub(crate) fn may_put<T: Copy>(volume: &mut Overlay<T>, p: u32, at: u64, bytes: 
     ensures seen { IsSeen volume.old volume.new 1 }
     ensures inside { IsTrue result → at + length bytes.now ≤ length (trace_at volume.old.volume p) }
     ensures there { IsTrue result → IsTrue (has_trace volume.old.volume p) }
-    ensures whole { IsTrue result → IsTrue volume.new.agreed →
+    ensures whole { IsTrue result → HaveAgreed volume.new.reads →
         IsTrace volume.old.volume.head (splice (trace_at volume.old.volume p) at (length bytes.now)
         bytes.now) }
 {

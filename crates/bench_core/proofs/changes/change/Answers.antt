@@ -1,4 +1,4 @@
-use Rattle.bench_core.proofs.ChangeLemmas.{none_told, on_err, refused_too, rises_too}
+use Rattle.bench_core.proofs.ChangeLemmas.{none_told, on_err, refused_too, rises_too, tells_too}
 use Rattle.bench_core.proofs.changes.change.Goals as goal
 
 pub returns-in_err-apply-in_default : goal.returns-in_err-apply-in_default
@@ -7,7 +7,9 @@ returns-in_err-apply-in_default c = record {
       c.from_residual-in_err-apply-in_default.ensures.1 (c.in_err-apply-in_default.ensures.step sure);
   err = on_err _ c.from_residual-in_err-apply-in_default.result c.from_residual-in_err-apply-in_default.ensures.1 c.in_err-apply-in_default.ensures.err;
   same = c.in_err-apply-in_default.ensures.same;
-  agreed = c.in_err-apply-in_default.ensures.agreed;
+  reads = c.in_err-apply-in_default.ensures.reads;
+  reads_tell = tells_too _ c.from_residual-in_err-apply-in_default.result c.args.volume.now.reads c.apply-in_default.new.self.reads c.from_residual-in_err-apply-in_default.ensures.1
+      c.in_err-apply-in_default.ensures.reads_tell;
   loaded = c.in_err-apply-in_default.ensures.loaded;
   looks = c.in_err-apply-in_default.ensures.looks;
   moved = none_told _ _ c.from_residual-in_err-apply-in_default.result c.from_residual-in_err-apply-in_default.ensures.1;

@@ -1,4 +1,4 @@
-use Rattle.std.proofs.Common.{◌≡◌, ◌∙◌, ◌+◌, ◌-◌, ◌++◌, ◌∷◌, [], ℕ, ap, arith, rules}
+use Rattle.std.proofs.Common.{◌≡◌, ◌∙◌, ◌+◌, ◌-◌, ◌++◌, ◌∷◌, [], ℕ, ap, arith}
 use Rattle.std.specs.List.{range_with_len}
 use Rattle.chosen_traces.proofs.ChoosingLemmas.{one_position}
 use Rattle.chosen_traces.proofs.choosing.all.Goals as goal

@@ -1,4 +1,4 @@
-use Rattle.std.proofs.Common.{◌≡◌, ◌+◌, ◌++◌, ◌∷◌, [], rules, arith}
+use Rattle.std.proofs.Common.{◌≡◌, ◌+◌, ◌++◌, ◌∷◌, [], arith}
 use Rattle.std.specs.Prelude.{slice_index}
 use Rattle.chosen_traces.proofs.ChoosingLemmas.{one_exchange}
 use Rattle.chosen_traces.proofs.exchanges.exchanges_to_front.Goals as goal

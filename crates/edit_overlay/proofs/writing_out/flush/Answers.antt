@@ -2,6 +2,7 @@ use Rattle.std.proofs.Common.{[], ℕ, List, length, refl, ap, ◌∙◌, arith}
 use Rattle.std.proofs.lemmas.Result.{err_from_is_err_and}
 use Rattle.edit_overlay.specs.Saving.{progress}
 use Rattle.edit_overlay.proofs.SavingLemmas.{comes_on, comes_over, nothing, read_refused, refused_at, stops_over, sure_then, IsReread-refl, IsReread-trans}
+use Rattle.edit_overlay.proofs.StandingLemmas.{lends_still}
 use Rattle.edit_overlay.proofs.writing_out.flush.Goals as goal
 
 pub pieces-init : goal.pieces-init
@@ -15,6 +16,9 @@ pieces-init g c = record {
 
 pub write_piece-requires-clause-inside : goal.write_piece-requires-clause-inside
 write_piece-requires-clause-inside g c = omega (arith, c.requires.inside, c.pieces.invariant.to, ap (λ (x : List ℕ). length x) c.pieces.invariant.same.loaded.bytes)
+
+pub write_piece-requires-clause-lends : goal.write_piece-requires-clause-lends
+write_piece-requires-clause-lends g c = lends_still c.args.store.now.loaded c.pieces.store.loaded c.pieces.invariant.same.loaded c.requires.lends
 
 pub pieces-preserved : goal.pieces-preserved
 pieces-preserved g c =
@@ -47,4 +51,4 @@ returns-in_err-write_piece-clause-saved g c =
 pub returns-in_err-write_piece-clause-read : goal.returns-in_err-write_piece-clause-read
 returns-in_err-write_piece-clause-read g c =
     let p = err_from_is_err_and c.from_residual.result c.from_residual.ensures.1 in
-    read_refused c.from_residual.result c.in_err-write_piece.field-0.0 c.args.store.now.loaded.standing c.pieces.store.loaded.standing (rw p.2 at p.1) c.pieces.invariant.same.loaded.standing c.in_err-write_piece.ensures.read
+    read_refused c.from_residual.result c.in_err-write_piece.field-0.0 c.args.store.now.loaded c.pieces.store.loaded c.write_piece.new.store.loaded (rw p.2 at p.1) c.pieces.invariant.same.loaded c.in_err-write_piece.ensures.read

@@ -1,11 +1,10 @@
 use Rattle.std.proofs.Common.{◌≡◌, ◌+◌, ◌<◌, ◌≤◌, [], ℕ, List, length, take, drop, refl, ◌∙◌, arith, Some}
 use Rattle.std.proofs.lemmas.Result.{err_from_is_err_and}
-use Rattle.base_file.proofs.HeldLemmas.{Falls-refl}
+use Rattle.base_file.proofs.HeldLemmas.{IsStill-refl}
 use Rattle.edit_overlay.specs.Saving.{progress}
-use Rattle.edit_overlay.specs.Standings.{is_on_disk}
 use Rattle.edit_overlay.specs.declared.waiting.Waiting.{Waiting}
 use Rattle.edit_overlay.proofs.SavingLemmas.{length-waits, no_read, piece_refused, piece_written, read_refused, refused_as, stops_here}
-use Rattle.edit_overlay.proofs.StandingLemmas.{on_disk_else, refused_in_memory}
+use Rattle.edit_overlay.proofs.StandingLemmas.{on_disk_else, piece_told, refused_in_memory}
 use Rattle.edit_overlay.proofs.writing_out.write_piece.Goals as goal
 
 pub returns-in_err-write_part-in-Ok-clause-saved : goal.returns-in_err-write_part-in-Ok-clause-saved
@@ -21,10 +20,10 @@ returns-in_err-write_part-in-Ok-clause-saved g c =
 
 pub returns-in_err-write_part-in-Ok-clause-read : goal.returns-in_err-write_part-in-Ok-clause-read
 returns-in_err-write_part-in-Ok-clause-read g c =
-    let standing = c.args.store.now.loaded.standing in
+    let loaded = c.args.store.now.loaded in
     let fault = c.in_err-write_part-in-Ok.field-0.0 in
     let p = err_from_is_err_and c.from_residual.result c.from_residual.ensures.1 in
-    read_refused c.from_residual.result fault standing standing (rw p.2 at p.1) (Falls-refl standing) (no_read fault (is_on_disk standing) c.in_err-write_part-in-Ok.ensures.read)
+    read_refused c.from_residual.result fault loaded loaded c.fetch_loaded.new.self.loaded (rw p.2 at p.1) (IsStill-refl loaded) (no_read fault loaded c.fetch_loaded.new.self.loaded c.in_err-write_part-in-Ok.ensures.read)
 
 pub returns-in_ok-write_part-in-Ok-clause-saved : goal.returns-in_ok-write_part-in-Ok-clause-saved
 returns-in_ok-write_part-in-Ok-clause-saved g c =
@@ -46,6 +45,22 @@ returns-in-Err-clause-saved g c =
     λ _. stops_here _ (progress file w) [] (record { written = w.written; read = Some c.in-Err.fault }) refl (omega (arith, some))
 
 pub returns-in-Err-clause-read : goal.returns-in-Err-clause-read
-returns-in-Err-clause-read g c =
-    let standing = c.args.store.now.loaded.standing in
-    λ _. on_disk_else standing (λ memory. refused_in_memory c.fetch_piece.result c.in-Err.fault c.in-Err.is (c.fetch_piece.ensures.memory memory (omega (arith, c.requires.some, c.requires.inside, c.most.ensures.memory memory))))
+returns-in-Err-clause-read g c = (
+  on_disk_else c.args.store.now.loaded.standing (λ memory. refused_in_memory c.fetch_loaded.result c.in-Err.fault c.in-Err.is (c.fetch_loaded.ensures.memory memory)),
+  piece_told c.fetch_loaded.result c.args.store.now.loaded c.fetch_loaded.new.self.loaded c.min-size.result c.in-Err.fault c.in-Err.is (λ away. omega (arith, c.most.ensures.disk away)) c.fetch_loaded.ensures.memory c.in-Err.ensures.fault,
+)
+
+pub returns-in_err-write_part-in-Ok-clause-same : goal.returns-in_err-write_part-in-Ok-clause-same
+returns-in_err-write_part-in-Ok-clause-same g c =
+    let f = c.fetch_loaded.ensures in
+    record { head = f.head; order = f.order; slots = f.slots; loaded = f.loaded }
+
+pub returns-in_ok-write_part-in-Ok-clause-same : goal.returns-in_ok-write_part-in-Ok-clause-same
+returns-in_ok-write_part-in-Ok-clause-same g c =
+    let f = c.fetch_loaded.ensures in
+    record { head = f.head; order = f.order; slots = f.slots; loaded = f.loaded }
+
+pub returns-in-Err-clause-same : goal.returns-in-Err-clause-same
+returns-in-Err-clause-same g c =
+    let f = c.fetch_loaded.ensures in
+    record { head = f.head; order = f.order; slots = f.slots; loaded = f.loaded }

@@ -1,6 +1,6 @@
 use Rattle.std.proofs.Common.{[], slice_range, refl}
 use Rattle.std.proofs.lemmas.Result.{err_from_is_err_and}
-use Rattle.base_file.proofs.HeldLemmas.{Falls-refl}
+use Rattle.base_file.proofs.HeldLemmas.{IsStill-refl}
 use Rattle.edit_overlay.specs.Saving.{progress}
 use Rattle.edit_overlay.proofs.SavingLemmas.{nothing, read_refused, refused_at, then_waits, waits_more, IsReread-refl}
 use Rattle.edit_overlay.proofs.writing_out.write_range.Goals as goal
@@ -20,9 +20,9 @@ returns-in_err-flush-clause-saved g c =
 
 pub returns-in_err-flush-clause-read : goal.returns-in_err-flush-clause-read
 returns-in_err-flush-clause-read g c =
-    let standing = c.args.store.now.loaded.standing in
+    let loaded = c.args.store.now.loaded in
     let p = err_from_is_err_and c.from_residual.result c.from_residual.ensures.1 in
-    read_refused c.from_residual.result c.in_err-flush.field-0.0 standing standing (rw p.2 at p.1) (Falls-refl standing) c.in_err-flush.ensures.read
+    read_refused c.from_residual.result c.in_err-flush.field-0.0 loaded loaded c.flush.new.store.loaded (rw p.2 at p.1) (IsStill-refl loaded) c.in_err-flush.ensures.read
 
 pub returns-clause-saved : goal.returns-clause-saved
 returns-clause-saved g c =

@@ -1,14 +1,13 @@
 use Rattle.std.proofs.Common.{◌≡◌, ◌-◌, ◌<◌, [], ℕ, List, length, get_or, refl, ap, ◌∙◌, arith, Some}
 use Rattle.std.proofs.lemmas.Result.{err_from_is_err_and}
 use Rattle.base_file.specs.HeldBytes.{IsSure}
-use Rattle.base_file.proofs.HeldLemmas.{Falls-refl, memory_stays}
+use Rattle.base_file.proofs.HeldLemmas.{memory_stays, IsStill-refl}
 use Rattle.edit_overlay.specs.Held.{IsReread}
 use Rattle.edit_overlay.specs.Saving.{Progress, progress}
-use Rattle.edit_overlay.specs.Standings.{is_on_disk}
 use Rattle.edit_overlay.specs.declared.save_fault.SaveFault.{SaveFault}
 use Rattle.trace_store.specs.Stores.{traces_of}
-use Rattle.edit_overlay.proofs.SavingLemmas.{after_flush, fetched_twice, no_reads, nothing, on_ok, range-length, range_trace, read_refused, refused_at, same_bytes, some_bytes, stops_here, stops_on, sure_then, traces_reread, IsReread-trans}
-use Rattle.edit_overlay.proofs.StandingLemmas.{on_disk_else, refused_in_memory}
+use Rattle.edit_overlay.proofs.SavingLemmas.{after_flush, fault_before, fetched_twice, no_reads, nothing, on_ok, range-length, range_trace, read_refused, refused_at, same_bytes, some_bytes, stops_here, stops_on, sure_then, traces_reread, IsReread-trans}
+use Rattle.edit_overlay.proofs.StandingLemmas.{fault_told, lends_still, on_disk_else, refused_in_memory}
 use Rattle.edit_overlay.proofs.writing_out.write_trace.Goals as goal
 
 pub write_range-requires-clause-small : goal.write_range-requires-clause-small
@@ -36,9 +35,9 @@ returns-in_err-flush-clause-saved g c =
 
 pub returns-in_err-flush-clause-read : goal.returns-in_err-flush-clause-read
 returns-in_err-flush-clause-read g c =
-    let standing = c.args.store.now.loaded.standing in
+    let loaded = c.args.store.now.loaded in
     let p = err_from_is_err_and c.from_residual.result c.from_residual.ensures.1 in
-    read_refused c.from_residual.result c.in_err-flush.field-0.0 standing standing (rw p.2 at p.1) (Falls-refl standing) c.in_err-flush.ensures.read
+    read_refused c.from_residual.result c.in_err-flush.field-0.0 loaded loaded c.flush.new.store.loaded (rw p.2 at p.1) (IsStill-refl loaded) c.in_err-flush.ensures.read
 
 pub fetch-requires-clause-last : goal.fetch-requires-clause-last
 fetch-requires-clause-last g c =
@@ -78,7 +77,7 @@ returns-in-Ok-clause-saved g c =
     (same_bytes c.write_view.result _ _ _ _ _ t shown c.write_view.ensures.saved)
 
 pub returns-in-Ok-clause-read : goal.returns-in-Ok-clause-read
-returns-in-Ok-clause-read g c = no_reads c.write_view.result (is_on_disk c.args.store.now.loaded.standing) c.write_view.ensures.read
+returns-in-Ok-clause-read g c = no_reads c.write_view.result c.args.store.now.loaded c.fetch.new.self.loaded c.write_view.ensures.read
 
 pub returns-in-Err-clause-same : goal.returns-in-Err-clause-same
 returns-in-Err-clause-same g c =
@@ -101,5 +100,8 @@ returns-in-Err-clause-saved g c =
 
 pub returns-in-Err-clause-read : goal.returns-in-Err-clause-read
 returns-in-Err-clause-read g c =
-    let s = c.args.store.now in
-    λ _. on_disk_else s.loaded.standing (λ memory. refused_in_memory c.fetch.result c.in-Err.fault c.in-Err.is (c.fetch.ensures.memory (memory_stays s.loaded.standing c.flush.new.store.loaded.standing c.in_ok-flush.ensures.same.loaded.standing memory)))
+    let s = c.args.store.now in (
+      on_disk_else s.loaded.standing (λ memory. refused_in_memory c.fetch.result c.in-Err.fault c.in-Err.is (c.fetch.ensures.memory (memory_stays s.loaded.standing c.flush.new.store.loaded.standing c.in_ok-flush.ensures.same.loaded.standing memory))),
+      fault_before s.loaded c.flush.new.store.loaded c.fetch.new.self.loaded c.in-Err.fault c.in_ok-flush.ensures.same.loaded
+          (fault_told c.flush.new.store.loaded c.fetch.new.self.loaded c.in-Err.fault (lends_still s.loaded c.flush.new.store.loaded c.in_ok-flush.ensures.same.loaded c.requires.lends) c.in-Err.ensures.fault),
+    )

@@ -5,6 +5,7 @@ use Rattle.std.specs.List.{concat}
 use Rattle.edit_overlay.specs.Saving.{Progress, progress}
 use Rattle.trace_store.specs.Stores.{traces_of}
 use Rattle.edit_overlay.proofs.SavingLemmas.{comes_on, comes_over, nothing, read_refused, refused_at, same_come, stops_over, sure_then, trace_reread, traces_next, traces_reread, traces_split, IsReread-refl, IsReread-trans}
+use Rattle.edit_overlay.proofs.StandingLemmas.{lends_still}
 use Rattle.edit_overlay.proofs.writing_out.write_traces.Goals as goal
 
 pub loop-at-init : goal.loop-at-init
@@ -20,6 +21,9 @@ pub write_trace-requires-clause-last : goal.write_trace-requires-clause-last
 write_trace-requires-clause-last g c =
     let s = c.args.store.now in
     omega (arith, c.count-at-end.ensures.traces, ap (λ (ts : List (List ℕ)). length ts) (traces_reread s c.loop-at.store c.loop-at.invariant.same))
+
+pub write_trace-requires-clause-lends : goal.write_trace-requires-clause-lends
+write_trace-requires-clause-lends g c = lends_still c.args.store.now.loaded c.loop-at.store.loaded c.loop-at.invariant.same.loaded c.requires.lends
 
 pub write_trace-requires-clause-bounded : goal.write_trace-requires-clause-bounded
 write_trace-requires-clause-bounded g c = rw c.loop-at.invariant.same.loaded.bytes c.requires.bounded
@@ -103,7 +107,7 @@ returns-in_err-write_trace-clause-saved g c =
 pub returns-in_err-write_trace-clause-read : goal.returns-in_err-write_trace-clause-read
 returns-in_err-write_trace-clause-read g c =
     let p = err_from_is_err_and c.from_residual.result c.from_residual.ensures.1 in
-    read_refused c.from_residual.result c.in_err-write_trace.field-0.0 c.args.store.now.loaded.standing c.loop-at.store.loaded.standing (rw p.2 at p.1) c.loop-at.invariant.same.loaded.standing c.in_err-write_trace.ensures.read
+    read_refused c.from_residual.result c.in_err-write_trace.field-0.0 c.args.store.now.loaded c.loop-at.store.loaded c.write_trace.new.store.loaded (rw p.2 at p.1) c.loop-at.invariant.same.loaded c.in_err-write_trace.ensures.read
 
 pub returns-clause-count : goal.returns-clause-count
 returns-clause-count g c =

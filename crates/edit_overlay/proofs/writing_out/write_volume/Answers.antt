@@ -2,14 +2,14 @@ use Rattle.std.proofs.Common.{◌≡◌, ◌-◌, ◌*◌, ◌++◌, [], ℕ, Li
 use Rattle.std.proofs.lemmas.Result.{err_from_is_err_and}
 use Rattle.std.specs.List.{concat}
 use Rattle.base_file.specs.HeldBytes.{IsSure}
-use Rattle.base_file.proofs.HeldLemmas.{Falls-refl}
+use Rattle.base_file.proofs.HeldLemmas.{IsStill-refl}
 use Rattle.frame_cut.specs.Volume.{bytes_of}
 use Rattle.edit_overlay.specs.Held.{volume_with, IsReread}
 use Rattle.edit_overlay.specs.Saving.{Progress, progress}
-use Rattle.edit_overlay.specs.Standings.{is_on_disk}
 use Rattle.edit_overlay.specs.declared.waiting.Waiting.{Waiting}
 use Rattle.trace_store.specs.Stores.{traces_of}
 use Rattle.edit_overlay.proofs.SavingLemmas.{begin, comes_on, comes_over, empty_waits, ended_save, front_all, front_headers, front_text, front_traces, goes_over, headers_come, no_read, nothing, on_ok, parts-length, parts_joined, read_over, read_refused, refused_save, stops_over, sure_then, Comes, IsReread-refl, IsReread-trans}
+use Rattle.edit_overlay.proofs.StandingLemmas.{lends_still}
 use Rattle.edit_overlay.proofs.writing_out.write_volume.Goals as goal
 
 pub returns-in_err-write_part-clause-same : goal.returns-in_err-write_part-clause-same
@@ -25,9 +25,9 @@ returns-in_err-write_part-clause-saved g c =
 
 pub returns-in_err-write_part-clause-read : goal.returns-in_err-write_part-clause-read
 returns-in_err-write_part-clause-read g c =
-    let standing = c.args.store.now.loaded.standing in
+    let loaded = c.args.store.now.loaded in
     let p = err_from_is_err_and c.from_residual.result c.from_residual.ensures.1 in
-    read_refused c.from_residual.result c.in_err-write_part.field-0.0 standing standing (rw p.2 at p.1) (Falls-refl standing) (no_read c.in_err-write_part.field-0.0 (is_on_disk standing) c.in_err-write_part.ensures.read)
+    read_refused c.from_residual.result c.in_err-write_part.field-0.0 loaded loaded loaded (rw p.2 at p.1) (IsStill-refl loaded) (no_read c.in_err-write_part.field-0.0 loaded loaded c.in_err-write_part.ensures.read)
 
 pub returns-in_err-write_part-2-clause-same : goal.returns-in_err-write_part-2-clause-same
 returns-in_err-write_part-2-clause-same g c = IsReread-refl c.args.store.now
@@ -45,9 +45,9 @@ returns-in_err-write_part-2-clause-saved g c =
 
 pub returns-in_err-write_part-2-clause-read : goal.returns-in_err-write_part-2-clause-read
 returns-in_err-write_part-2-clause-read g c =
-    let standing = c.args.store.now.loaded.standing in
+    let loaded = c.args.store.now.loaded in
     let p = err_from_is_err_and c.from_residual-in_err-write_part-2.result c.from_residual-in_err-write_part-2.ensures.1 in
-    read_refused c.from_residual-in_err-write_part-2.result c.in_err-write_part-2.field-0.0 standing standing (rw p.2 at p.1) (Falls-refl standing) (no_read c.in_err-write_part-2.field-0.0 (is_on_disk standing) c.in_err-write_part-2.ensures.read)
+    read_refused c.from_residual-in_err-write_part-2.result c.in_err-write_part-2.field-0.0 loaded loaded loaded (rw p.2 at p.1) (IsStill-refl loaded) (no_read c.in_err-write_part-2.field-0.0 loaded loaded c.in_err-write_part-2.ensures.read)
 
 pub write_traces-requires-clause-small : goal.write_traces-requires-clause-small
 write_traces-requires-clause-small g c =
@@ -70,9 +70,17 @@ returns-in_err-write_traces-clause-saved g c =
 
 pub returns-in_err-write_traces-clause-read : goal.returns-in_err-write_traces-clause-read
 returns-in_err-write_traces-clause-read g c =
-    let standing = c.args.store.now.loaded.standing in
+    let loaded = c.args.store.now.loaded in
     let p = err_from_is_err_and c.from_residual-in_err-write_traces.result c.from_residual-in_err-write_traces.ensures.1 in
-    read_refused c.from_residual-in_err-write_traces.result c.in_err-write_traces.field-0.0 standing standing (rw p.2 at p.1) (Falls-refl standing) c.in_err-write_traces.ensures.read
+    read_refused c.from_residual-in_err-write_traces.result c.in_err-write_traces.field-0.0 loaded loaded c.write_traces.new.store.loaded (rw p.2 at p.1) (IsStill-refl loaded) c.in_err-write_traces.ensures.read
+
+pub write_range-requires-clause-lends : goal.write_range-requires-clause-lends
+write_range-requires-clause-lends g c = lends_still c.args.store.now.loaded c.write_traces.new.store.loaded c.in_ok-write_traces.ensures.same.loaded c.requires.lends
+
+pub flush-requires-clause-lends : goal.flush-requires-clause-lends
+flush-requires-clause-lends g c =
+    let same : IsReread c.args.store.now c.write_range.new.store = IsReread-trans c.args.store.now c.write_traces.new.store c.write_range.new.store c.in_ok-write_traces.ensures.same c.in_ok-write_range.ensures.same in
+    lends_still c.args.store.now.loaded c.write_range.new.store.loaded same.loaded c.requires.lends
 
 pub write_range-requires-clause-inside : goal.write_range-requires-clause-inside
 write_range-requires-clause-inside g c = rw c.in_ok-write_traces.ensures.same.loaded.bytes c.in_ok-write_traces.ensures.inside
@@ -113,7 +121,7 @@ returns-in_err-write_range-clause-saved g c =
 pub returns-in_err-write_range-clause-read : goal.returns-in_err-write_range-clause-read
 returns-in_err-write_range-clause-read g c =
     let p = err_from_is_err_and c.from_residual-in_err-write_range.result c.from_residual-in_err-write_range.ensures.1 in
-    read_refused c.from_residual-in_err-write_range.result c.in_err-write_range.field-0.0 c.args.store.now.loaded.standing c.write_traces.new.store.loaded.standing (rw p.2 at p.1) c.in_ok-write_traces.ensures.same.loaded.standing c.in_err-write_range.ensures.read
+    read_refused c.from_residual-in_err-write_range.result c.in_err-write_range.field-0.0 c.args.store.now.loaded c.write_traces.new.store.loaded c.write_range.new.store.loaded (rw p.2 at p.1) c.in_ok-write_traces.ensures.same.loaded c.in_err-write_range.ensures.read
 
 pub flush-requires-clause-inside : goal.flush-requires-clause-inside
 flush-requires-clause-inside g c = rw c.in_ok-write_range.ensures.same.loaded.bytes c.in_ok-write_range.ensures.inside
@@ -162,4 +170,4 @@ pub returns-clause-read : goal.returns-clause-read
 returns-clause-read g c =
     let s = c.args.store.now in
     let same : IsReread s c.write_range.new.store = IsReread-trans s c.write_traces.new.store c.write_range.new.store c.in_ok-write_traces.ensures.same c.in_ok-write_range.ensures.same in
-    read_over c.flush.result s.loaded.standing c.write_range.new.store.loaded.standing same.loaded.standing c.flush.ensures.read
+    read_over c.flush.result s.loaded c.write_range.new.store.loaded c.flush.new.store.loaded same.loaded c.flush.ensures.read

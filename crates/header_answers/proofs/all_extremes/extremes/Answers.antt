@@ -18,7 +18,7 @@ loop-k-preserved c =
       numbers = λ sure. made.numbers sure
           ∙ ap (λ (u : Volume). seen_each u.head (trace_at u p) c.as_slice-in-loop-k.result.now c.loop-k.seen.items) i.seen.volume
           ∙ ap (λ (ns : Pairs). seen_each v.head (trace_at v p) ns c.loop-k.seen.items) c.as_slice-in-loop-k.ensures.value
-          ∙ ap (λ (ss : List Seen). seen_each v.head (trace_at v p) c.args.names.items ss) (i.numbers (made.seen.agreed sure))
+          ∙ ap (λ (ss : List Seen). seen_each v.head (trace_at v p) c.args.names.items ss) (i.numbers (made.seen.reads.agreed sure))
           ∙ trace_seen v c.args.a c.loop-k.k c.args.names.items;
       each = made.each ∙ ap (λ (ns : Pairs). length ns) c.as_slice-in-loop-k.ensures.value;
       seen = seen_after c.args.overlay.now c.loop-k.overlay c.see_trace.new.overlay c.loop-k.k 1 i.seen made.seen;

@@ -1,5 +1,6 @@
-use Rattle.std.proofs.Common.{◌≡◌, IsTrue, length, map, ◌≤◌}
+use Rattle.std.proofs.Common.{◌≡◌, length, map, ◌≤◌}
 use Rattle.edit_overlay.specs.CountedVolume.{IsSeen}
+use Rattle.edit_overlay.specs.Reads.{HaveAgreed}
 use Rattle.header_answers.specs.Seen.{seen_of}
 use Rattle.header_answers.proofs.SeenLemmas.{numbers_so_far}
 use Rattle.header_answers.proofs.all_extremes.extremes.Given as goal
@@ -7,7 +8,7 @@ use Rattle.header_answers.proofs.all_extremes.extremes.Given as goal
 -- what was seen of the first traces, at a look each
 abbrev pub invariant-loop-k : goal.invariant-loop-k
 invariant-loop-k l = record {
-  numbers : IsTrue l.overlay.agreed → l.seen.items ≡ map (λ e. seen_of (numbers_so_far l.fn.overlay.volume l.a l.k e.1)) l.names.items;
+  numbers : HaveAgreed l.overlay.reads → l.seen.items ≡ map (λ e. seen_of (numbers_so_far l.fn.overlay.volume l.a l.k e.1)) l.names.items;
   each : length l.seen.items ≡ length l.names.items;
   seen : IsSeen l.fn.overlay l.overlay l.k;
   memory : l.initial.room ≤ l.room;

@@ -25,7 +25,7 @@ loop-p-preserved c =
       numbers = λ sure. made.numbers sure
           ∙ ap (λ (u : Volume). seen_each u.head (trace_at u p) c.as_slice-in-loop-p.result.now c.loop-p.seen.items) i.seen.volume
           ∙ ap (λ (ns : Pairs). seen_each v.head (trace_at v p) ns c.loop-p.seen.items) c.as_slice-in-loop-p.ensures.value
-          ∙ ap (λ (ss : List Seen). seen_each v.head (trace_at v p) c.args.names.items ss) (i.numbers (made.seen.agreed sure))
+          ∙ ap (λ (ss : List Seen). seen_each v.head (trace_at v p) c.args.names.items ss) (i.numbers (made.seen.reads.agreed sure))
           ∙ listed_seen v c.args.traces.now c.loop-p.p-index 0 c.args.names.items c.loop-p-test.true;
       each = made.each ∙ ap (λ (ns : Pairs). length ns) c.as_slice-in-loop-p.ensures.value;
       seen = seen_after c.args.overlay.now c.loop-p.overlay c.see_trace.new.overlay c.loop-p.p-index 1 i.seen made.seen;

@@ -25,7 +25,7 @@ returns-in_default-clause-err c = inr (inr (
       let high : SFits w128 c.args.high = search rules in
       let i = c.loop-p.invariant in
       let made = c.in_ok-here.ensures in
-      let far = rw (to_z-of_z w128 c.args.low low, to_z-of_z w128 c.args.high high) at (i.found (made.seen.agreed sure)) in
+      let far = rw (to_z-of_z w128 c.args.low low, to_z-of_z w128 c.args.high high) at (i.found (made.seen.reads.agreed sure)) in
       let none = sym c.in_default.is ∙ made.number sure in
       listed_lacks c.args.overlay.now.volume c.args.place c.args.low c.args.high c.args.traces.now c.loop-p.p-index 0 c.loop-p.found.items c.loop-p-test.true (rw (i.seen.volume) at none) far,
 ))
@@ -50,7 +50,7 @@ loop-p-preserved c =
     record {
       found = λ sure.
           let number = sym c.in-Some.is ∙ made.number sure in
-          let far = rw (to_z-of_z w128 c.args.low low, to_z-of_z w128 c.args.high high) at (i.found (made.seen.agreed sure)) in
+          let far = rw (to_z-of_z w128 c.args.low low, to_z-of_z w128 c.args.high high) at (i.found (made.seen.reads.agreed sure)) in
           rw (to_z-of_z w128 c.args.low low, to_z-of_z w128 c.args.high high) (listed_go_on c.args.overlay.now.volume c.args.place c.args.low c.args.high c.args.traces.now c.loop-p.p-index 0 c.in-Some.number c.loop-p.found.items c.keep.new.found.items c.loop-p-test.true (rw (i.seen.volume) at number)
           (rw (to_z-of_z w128 c.args.low low, to_z-of_z w128 c.args.high high, to_z-of_z w128 c.in-Some.number fits) at kept) far);
       seen = seen_after c.args.overlay.now c.loop-p.overlay c.number_at.new.overlay c.loop-p.p-index 1 i.seen made.seen;

@@ -9,6 +9,7 @@ use Rattle.bench_rules.specs.Computed.{Formula}
 use Rattle.many_traces.specs.Fields.{HoldsPlace}
 use Rattle.bench_rules.proofs.LookLemmas.{seen_after}
 use Rattle.many_traces.proofs.NumbersLemmas.{one_more, refused_or_read, none_refused, all_bytes, room_left}
+use Rattle.bench_rules.proofs.ReadTellLemmas.{edit_before}
 use Rattle.many_traces.proofs.computed.filled.Goals as goal
 
 pub push_number-requires-clause-fits : goal.push_number-requires-clause-fits
@@ -20,7 +21,7 @@ pub returns-in-Err-clause-err : goal.returns-in-Err-clause-err
 returns-in-Err-clause-err c =
     let i = c.loop-k.invariant in
     let f : Formula = record { place = c.args.place; source = c.args.source; steps = c.args.steps.now } in
-    refused_or_read c.args.overlay.now.volume f c.args.a c.args.b c.loop-k.k c.in-Err.refusal (rw (i.seen.volume, i.seen.loaded) at c.in-Err.ensures.err) (λ sure. (i.far (c.number_at.ensures.seen.agreed sure)).none) (omega (arith, c.loop-k-test.true, c.requires.range))
+    refused_or_read c.args.overlay.now.volume f c.args.a c.args.b c.loop-k.k c.in-Err.refusal (rw (i.seen.volume, i.seen.loaded) at c.in-Err.ensures.err) (λ sure. (i.far (c.number_at.ensures.seen.reads.agreed sure)).none) (omega (arith, c.loop-k-test.true, c.requires.range))
 
 pub loop-k-preserved : goal.loop-k-preserved
 loop-k-preserved c =
@@ -36,7 +37,7 @@ loop-k-preserved c =
       far = λ sure.
           let none = rw (i.seen.volume) at (made.none sure) in
           let number = rw (i.seen.volume) at (made.number sure) in
-          one_more v f c.args.a c.loop-k.k c.in-Ok.number c.loop-k.bytes.items c.push_number.new.bytes.items (i.far (made.seen.agreed sure)) none number joined;
+          one_more v f c.args.a c.loop-k.k c.in-Ok.number c.loop-k.bytes.items c.push_number.new.bytes.items (i.far (made.seen.reads.agreed sure)) none number joined;
       count = omega (arith, step, i.count, c.push_number.ensures.count);
       each =
           let here = rw (i.seen.volume) at made.place in
@@ -59,3 +60,7 @@ returns-clause-bytes c = λ sure.
 
 pub returns-clause-each : goal.returns-clause-each
 returns-clause-each c = λ j less. c.loop-k.invariant.each j (omega (arith, less, c.loop-k-test.false, c.requires.range))
+
+pub returns-in-Err-clause-reads_tell : goal.returns-in-Err-clause-reads_tell
+returns-in-Err-clause-reads_tell c =
+    edit_before c.args.overlay.now.reads c.loop-k.overlay.reads c.number_at.new.overlay.reads c.in-Err.refusal c.loop-k.invariant.seen.reads c.in-Err.ensures.reads_tell

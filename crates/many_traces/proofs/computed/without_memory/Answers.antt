@@ -14,7 +14,7 @@ returns-in-Some-clause-refusal c = λ sure terms known.
     let made = c.in_ok-first.ensures in
     let err = sym (sym c.in-Some.is ∙ made.refusal sure terms known) in
     refusal_is c.in-Some.refusal (compute_refusal_in c.args.overlay.now.volume (Some f) c.args.a c.args.b)
-    (refused_here c.args.overlay.now.volume f c.args.a c.args.b c.loop-k.k c.in-Some.refusal (i.none (made.seen.agreed sure) terms known) (omega (arith, c.loop-k-test.true, c.requires.range)) (rw (i.seen.volume) at err))
+    (refused_here c.args.overlay.now.volume f c.args.a c.args.b c.loop-k.k c.in-Some.refusal (i.none (made.seen.reads.agreed sure) terms known) (omega (arith, c.loop-k-test.true, c.requires.range)) (rw (i.seen.volume) at err))
 
 pub loop-k-preserved : goal.loop-k-preserved
 loop-k-preserved c =
@@ -24,7 +24,7 @@ loop-k-preserved c =
       none = λ sure (terms : List (Operator × Term)) known.
           let f : Formula = record { place = c.args.place; source = c.args.source; steps = terms } in
           let none = sym (sym c.in_default.is ∙ made.refusal sure terms known) in
-          below_more (λ (j : ℕ). compute_refusal c.args.overlay.now.volume f (c.args.a + j) ≡ None) c.loop-k.k (i.none (made.seen.agreed sure) terms known) (rw (i.seen.volume) at none);
+          below_more (λ (j : ℕ). compute_refusal c.args.overlay.now.volume f (c.args.a + j) ≡ None) c.loop-k.k (i.none (made.seen.reads.agreed sure) terms known) (rw (i.seen.volume) at none);
       seen = seen_after c.args.overlay.now c.loop-k.overlay c.refusal_by_names.new.overlay c.loop-k.k 1 i.seen made.seen;
     }
 

@@ -1,4 +1,4 @@
-use Rattle.std.proofs.Common.{◌≡◌, ◌∙◌, ℕ, ◌+◌, ◌-◌, ◌*◌, ◌<◌, ◌≤◌, ◌++◌, List, [], ◌∷◌, length, get_or, None, inr, ap, sym, subst, rules, arith, length-append}
+use Rattle.std.proofs.Common.{◌≡◌, ◌∙◌, ℕ, ◌+◌, ◌-◌, ◌*◌, ◌<◌, ◌≤◌, ◌++◌, List, [], ◌∷◌, length, get_or, None, inr, ap, sym, subst, arith, length-append}
 use borrow.Author.Count.{below_more}
 use Rattle.sample_codes.specs.Formats.{width}
 use Rattle.frame_cut.specs.Traces.{trace_at}
@@ -9,6 +9,7 @@ use Rattle.bench_rules.proofs.LookLemmas.{seen_after}
 use Rattle.bench_rules.proofs.SwapLemmas.{here_listed, none_listed}
 use Rattle.many_traces.proofs.SwappedLemmas.{listed_there}
 use Rattle.many_traces.proofs.FillingLemmas.{place-before, place-next}
+use Rattle.bench_rules.proofs.ReadTellLemmas.{no_read_tells}
 use Rattle.many_traces.proofs.filling.sample_places.Goals as goal
 
 pub place_at-requires : goal.place_at-requires
@@ -20,7 +21,7 @@ returns-in-Err-clause-err c =
     let v : Volume = c.args.overlay.now.volume in
     let told = rw (c.in-Err.is) at c.in_ok-place.ensures.refused in
     inr (inr (λ sure.
-    here_listed (λ p. samples_refusal v.head c.args.first c.args.last (trace_at v p)) c.args.traces.now c.loop-k.k c.in-Err.refusal c.loop-k-test.true (i.none (c.place_at.ensures.seen.agreed sure)) (rw (i.seen.volume) at (told sure))))
+    here_listed (λ p. samples_refusal v.head c.args.first c.args.last (trace_at v p)) c.args.traces.now c.loop-k.k c.in-Err.refusal c.loop-k-test.true (i.none (c.place_at.ensures.seen.reads.agreed sure)) (rw (i.seen.volume) at (told sure))))
 
 pub loop-k-preserved : goal.loop-k-preserved
 loop-k-preserved c =
@@ -39,10 +40,10 @@ loop-k-preserved c =
     λ j less. sym (ap (λ (l : List ℕ). get_or l j 0) items ∙ place-before old c.in-Ok.place j (omega (arith, less, i.count))) in
     record {
       none = λ sure.
-          below_more (λ (j : ℕ). samples_refusal v.head c.args.first c.args.last (trace_at v (get_or ts j 0)) ≡ None) k (i.none (made.seen.agreed sure)) (rw (i.seen.volume) at (free sure));
+          below_more (λ (j : ℕ). samples_refusal v.head c.args.first c.args.last (trace_at v (get_or ts j 0)) ≡ None) k (i.none (made.seen.reads.agreed sure)) (rw (i.seen.volume) at (free sure));
       places = λ sure.
           below_more (λ (j : ℕ). get_or c.push.new.self.items j 0 ≡ samples_at v.head (trace_at v (get_or ts j 0)) + width v.head.format * c.args.first) k
-          (λ j less. sym (before j less) ∙ i.places (made.seen.agreed sure) j less) (here ∙ (rw (i.seen.volume) at (place sure)));
+          (λ j less. sym (before j less) ∙ i.places (made.seen.reads.agreed sure) j less) (here ∙ (rw (i.seen.volume) at (place sure)));
       count = omega (arith, ap (λ (l : List ℕ). length l) items, length-append old (c.in-Ok.place ∷ []), i.count);
       room =
           below_more (λ (j : ℕ). get_or c.push.new.self.items j 0 + width v.head.format * (c.args.last + 1 - c.args.first) ≤ length (trace_at v (get_or ts j 0))) k
@@ -56,3 +57,8 @@ pub returns-clause-none : goal.returns-clause-none
 returns-clause-none c = λ sure.
     let v : Volume = c.args.overlay.now.volume in
     none_listed (λ p. samples_refusal v.head c.args.first c.args.last (trace_at v p)) c.args.traces.now (λ j less. c.loop-k.invariant.none sure j (omega (arith, less, c.loop-k-test.false)))
+
+pub returns-in-Err-clause-reads_tell : goal.returns-in-Err-clause-reads_tell
+returns-in-Err-clause-reads_tell c =
+    let free = rw (c.in-Err.is) at c.in_ok-place.ensures.rule in
+    no_read_tells c.args.overlay.now.reads c.place_at.new.overlay.reads c.in-Err.refusal free

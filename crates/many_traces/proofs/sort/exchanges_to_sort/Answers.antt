@@ -8,6 +8,7 @@ use Rattle.many_traces.specs.Formulas.{IsRefusalFor}
 use Rattle.bench_rules.proofs.LookLemmas.{if_err}
 use Rattle.many_traces.proofs.NumbersLemmas.{memory_is}
 use Rattle.many_traces.proofs.SortedTraceLemmas.{is-table, table-sorts, sort-free, put-places, told-either, if_ok}
+use Rattle.bench_rules.proofs.ReadTellLemmas.{memory_tells, sort_tells}
 use Rattle.many_traces.proofs.sort.exchanges_to_sort.Goals as goal
 
 pub exchanges_of-requires-clause-wide : goal.exchanges_of-requires-clause-wide
@@ -44,3 +45,9 @@ pub returns-in-Err-clause-err : goal.returns-in-Err-clause-err
 returns-in-Err-clause-err c =
     let places = each_of (place_in_trace c.args.map.now.pairs) c.args.fields.now in
     rw c.refusal_for.ensures (told-either c.args.overlay.now.volume c.args.a c.args.b places c.args.overlay.now.loaded.on_disk c.in-Err.fault c.in-Err.ensures.err)
+
+pub returns-in-Ok-clause-reads_tell : goal.returns-in-Ok-clause-reads_tell
+returns-in-Ok-clause-reads_tell c = if_err c.exchanges_of.result (λ refusal e. memory_tells c.args.overlay.now.reads c.table.new.overlay.reads refusal e) c.exchanges_of.ensures.err
+
+pub returns-in-Err-clause-reads_tell : goal.returns-in-Err-clause-reads_tell
+returns-in-Err-clause-reads_tell c = rw c.refusal_for.ensures (sort_tells c.args.overlay.now.reads c.table.new.overlay.reads c.in-Err.fault c.in-Err.ensures.reads_tell)

@@ -8,7 +8,7 @@ returns-then-not-there-clause-err c = inr (λ sure.
     let i = c.loop-k.invariant in
     let made = c.in_ok-there.ensures in
     let lacks = sym c.if-not-there.true ∙ made.there sure in
-    (refl, rows_stop c.args.overlay.now.volume c.args.places.now c.args.a c.args.b c.loop-k.k c.loop-k.numbers.items (omega (arith, c.loop-k-test.true, c.requires.range)) (i.rows (made.seen.agreed sure)) (rw (i.seen.volume) at lacks)))
+    (refl, rows_stop c.args.overlay.now.volume c.args.places.now c.args.a c.args.b c.loop-k.k c.loop-k.numbers.items (omega (arith, c.loop-k-test.true, c.requires.range)) (i.rows (made.seen.reads.agreed sure)) (rw (i.seen.volume) at lacks)))
 
 pub loop-k-preserved : goal.loop-k-preserved
 loop-k-preserved c =
@@ -19,7 +19,7 @@ loop-k-preserved c =
     record {
       rows = λ sure.
           let row = made.row sure c.if-not-there.false in
-          rows_go_on c.args.overlay.now.volume c.args.places.now c.args.a c.args.b c.loop-k.k c.loop-k.numbers.items c.push_row.new.numbers.items (omega (arith, c.loop-k-test.true, c.requires.range)) (i.rows (made.seen.agreed sure)) (rw (i.seen.volume) at row) more;
+          rows_go_on c.args.overlay.now.volume c.args.places.now c.args.a c.args.b c.loop-k.k c.loop-k.numbers.items c.push_row.new.numbers.items (omega (arith, c.loop-k-test.true, c.requires.range)) (i.rows (made.seen.reads.agreed sure)) (rw (i.seen.volume) at row) more;
       full = omega (arith, more, step, i.full);
       room = search rules;
       seen = seen_after c.args.overlay.now c.loop-k.overlay c.push_row.new.overlay c.loop-k.k 1 i.seen made.seen;

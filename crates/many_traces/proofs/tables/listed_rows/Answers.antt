@@ -18,7 +18,7 @@ returns-then-not-there-clause-err c = inr (
       let i = c.loop-p.invariant in
       let made = c.in_ok-there.ensures in
       let lacks = sym c.if-not-there.true ∙ made.there sure in
-      listed_stop c.args.overlay.now.volume c.args.places.now c.args.traces.now c.loop-p.p-index c.loop-p.numbers.items c.loop-p-test.true (i.rows (made.seen.agreed sure)) (rw (i.seen.volume) at lacks),
+      listed_stop c.args.overlay.now.volume c.args.places.now c.args.traces.now c.loop-p.p-index c.loop-p.numbers.items c.loop-p-test.true (i.rows (made.seen.reads.agreed sure)) (rw (i.seen.volume) at lacks),
 )
 
 pub loop-p-preserved : goal.loop-p-preserved
@@ -30,7 +30,7 @@ loop-p-preserved c =
     record {
       rows = λ sure.
           let row = made.row sure c.if-not-there.false in
-          listed_go_on c.args.overlay.now.volume c.args.places.now c.args.traces.now c.loop-p.p-index c.loop-p.numbers.items c.push_row.new.numbers.items c.loop-p-test.true (i.rows (made.seen.agreed sure)) (rw (i.seen.volume) at row) more;
+          listed_go_on c.args.overlay.now.volume c.args.places.now c.args.traces.now c.loop-p.p-index c.loop-p.numbers.items c.push_row.new.numbers.items c.loop-p-test.true (i.rows (made.seen.reads.agreed sure)) (rw (i.seen.volume) at row) more;
       full = omega (arith, more, step, i.full);
       room = search rules;
       seen = seen_after c.args.overlay.now c.loop-p.overlay c.push_row.new.overlay c.loop-p.p-index 1 i.seen made.seen;

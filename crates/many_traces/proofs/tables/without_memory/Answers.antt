@@ -10,7 +10,7 @@ returns-then-not-there-clause-fault c = λ sure places known.
     let made = c.in_ok-there.ensures in
     let lacks = sym c.if-not-there.true ∙ made.there sure in
     fault_none (table_of c.args.overlay.now.volume places c.args.a c.args.b)
-    (i.left (made.seen.agreed sure) places known
+    (i.left (made.seen.reads.agreed sure) places known
     ∙ left_stops c.args.overlay.now.volume c.args.map.now.pairs c.args.fields.now places c.args.a c.args.b c.loop-k.k known (omega (arith, c.loop-k-test.true, c.requires.range)) (rw (i.seen.volume) at lacks))
 
 pub loop-k-preserved : goal.loop-k-preserved
@@ -20,7 +20,7 @@ loop-k-preserved c =
     record {
       left = λ sure places known.
           let there = sym c.if-not-there.false ∙ made.there sure in
-          i.left (made.seen.agreed sure) places known
+          i.left (made.seen.reads.agreed sure) places known
           ∙ left_goes_on c.args.overlay.now.volume c.args.map.now.pairs c.args.fields.now places c.args.a c.args.b c.loop-k.k known (omega (arith, c.loop-k-test.true, c.requires.range)) (rw (i.seen.volume) at there);
       seen = seen_after c.args.overlay.now c.loop-k.overlay c.has_row.new.overlay c.loop-k.k 1 i.seen made.seen;
     }

@@ -25,7 +25,7 @@ loop-p-preserved c =
     record {
       found = λ sure.
           (rw c.in_ok-told_back.ensures.ok at c.push.ensures.items)
-          ∙ ap (λ (l : List FloatTraceStatistics). l ++ c.in_ok-one.one ∷ []) (i.found (made.seen.agreed sure))
+          ∙ ap (λ (l : List FloatTraceStatistics). l ++ c.in_ok-one.one ∷ []) (i.found (made.seen.reads.agreed sure))
           ∙ ap (λ (s : FloatTraceStatistics). map (of v) (take c.loop-p.p-index ps) ++ s ∷ []) (made.ok sure ∙ ap (λ (u : Volume). of u p) i.seen.volume)
           ∙ sym (map-append (of v) (take c.loop-p.p-index ps) (p ∷ []))
           ∙ sym (ap (map (of v)) (take_more ps c.loop-p.p-index 0 c.loop-p-test.true));

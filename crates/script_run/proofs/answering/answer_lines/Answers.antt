@@ -18,7 +18,7 @@ lines-init g c =
       refl,
       omega arith,
       read_as_itself c.args.bench.now.state,
-      λ sure. sure,
+      record { agreed = λ sure. sure; failures = omega arith },
       refl,
       omega arith,
     )
@@ -30,13 +30,13 @@ returns-in-End-clause-lines g c = λ sure.
 
 pub returns-then-stop-clause-lines : goal.returns-then-stop-clause-lines
 returns-then-stop-clause-lines g c = λ sure.
-    stops _ _ _ _ (device_of g.S.Read.remaining c.args.script.now) _ _ c.in-Line.ensures.next.0 c.in-Line.has_end _ _ _ _ _ _ _ (standing c.answer.new.bench.state (g.P.Saves.place c.answer.new.place c.answer.new.bench.loaded)) (c.in-Ok.ensures.line sure).0 (c.lines.invariant.0 (c.in-Ok.ensures.agreed sure)) c.in-Line.ensures.next.1
+    stops _ _ _ _ (device_of g.S.Read.remaining c.args.script.now) _ _ c.in-Line.ensures.next.0 c.in-Line.has_end _ _ _ _ _ _ _ (standing c.answer.new.bench.state (g.P.Saves.place c.answer.new.place c.answer.new.bench.loaded)) (c.in-Ok.ensures.line sure).0 (c.lines.invariant.0 (c.in-Ok.ensures.reads.agreed sure)) c.in-Line.ensures.next.1
     (omega (arith, c.in-Line.ensures.never_falls, c.in-Ok.ensures.never_falls))
     ((c.in-Ok.ensures.line sure).1 c.in-Line.ensures.next.0 c.in-Line.ensures.next.2 _ c.in-Line.ensures.never_falls c.in-Line.ensures.lost) _ (c.in-Ok.ensures.line sure).2.0 (sym (c.in-Ok.ensures.line sure).2.2 ∙ c.if-told.true) c.if-stop.true
 
 pub returns-in-Err-clause-lines : goal.returns-in-Err-clause-lines
 returns-in-Err-clause-lines g c = λ sure.
-    breaks_off _ _ _ _ (device_of g.S.Read.remaining c.args.script.now) _ _ c.in-Line.ensures.next.0 c.in-Line.has_end _ _ _ _ _ _ _ (standing c.answer.new.bench.state (g.P.Saves.place c.answer.new.place c.answer.new.bench.loaded)) (c.in-Err.ensures.line sure).0 (c.lines.invariant.0 (c.in-Err.ensures.agreed sure)) c.in-Line.ensures.next.1
+    breaks_off _ _ _ _ (device_of g.S.Read.remaining c.args.script.now) _ _ c.in-Line.ensures.next.0 c.in-Line.has_end _ _ _ _ _ _ _ (standing c.answer.new.bench.state (g.P.Saves.place c.answer.new.place c.answer.new.bench.loaded)) (c.in-Err.ensures.line sure).0 (c.lines.invariant.0 (c.in-Err.ensures.reads.agreed sure)) c.in-Line.ensures.next.1
     (omega (arith, c.in-Line.ensures.never_falls, c.in-Err.ensures.never_falls))
     ((c.in-Err.ensures.line sure).1 c.in-Line.ensures.next.0 c.in-Line.ensures.next.2 _ c.in-Line.ensures.never_falls c.in-Line.ensures.lost) _ (c.in-Err.ensures.line sure).2.0 c.saturating_add.result (c.in-Err.ensures.line sure).2.2
     (omega (arith, c.saturating_add.ensures, (c.in-Err.ensures.line sure).2.1))
@@ -44,7 +44,7 @@ returns-in-Err-clause-lines g c = λ sure.
 pub lines-preserved : goal.lines-preserved
 lines-preserved g c = elim c.if-told.branch [
   | then-told+else-stop w ↦ (
-    λ sure. one_more _ _ _ _ (device_of g.S.Read.remaining c.args.script.now) _ _ c.in-Line.ensures.next.0 c.in-Line.has_end _ _ _ _ _ _ _ (standing c.answer.new.bench.state (g.P.Saves.place c.answer.new.place c.answer.new.bench.loaded)) (c.in-Ok.ensures.line sure).0 (c.lines.invariant.0 (c.in-Ok.ensures.agreed sure)) c.in-Line.ensures.next.1
+    λ sure. one_more _ _ _ _ (device_of g.S.Read.remaining c.args.script.now) _ _ c.in-Line.ensures.next.0 c.in-Line.has_end _ _ _ _ _ _ _ (standing c.answer.new.bench.state (g.P.Saves.place c.answer.new.place c.answer.new.bench.loaded)) (c.in-Ok.ensures.line sure).0 (c.lines.invariant.0 (c.in-Ok.ensures.reads.agreed sure)) c.in-Line.ensures.next.1
         (omega (arith, c.in-Line.ensures.never_falls, c.in-Ok.ensures.never_falls))
         ((c.in-Ok.ensures.line sure).1 c.in-Line.ensures.next.0 c.in-Line.ensures.next.2 _ c.in-Line.ensures.never_falls c.in-Line.ensures.lost) _ c.if-told.refused c.saturating_add-written.result (c.in-Ok.ensures.line sure).2.0
         (one_refused _ _ _ (sym (c.in-Ok.ensures.line sure).2.2 ∙ w.if-told.true) w.refused-is)
@@ -52,12 +52,12 @@ lines-preserved g c = elim c.if-told.branch [
     c.in-Line.ensures.failures ∙ c.lines.invariant.1,
     omega (arith, c.lines.invariant.2, w.refused-is),
     read_as_then _ _ _ c.lines.invariant.3 c.in-Ok.ensures.same,
-    λ sure. c.lines.invariant.4 (c.in-Ok.ensures.agreed sure),
+    record { agreed = λ sure. c.lines.invariant.4.agreed (c.in-Ok.ensures.reads.agreed sure); failures = omega (arith, c.lines.invariant.4.failures, c.in-Ok.ensures.reads.failures) },
     c.in-Ok.ensures.loaded ∙ c.lines.invariant.5,
     omega (arith, c.in-Line.ensures.never_falls, c.in-Ok.ensures.never_falls, c.lines.invariant.6),
   )
   | else-told w ↦ (
-    λ sure. one_more _ _ _ _ (device_of g.S.Read.remaining c.args.script.now) _ _ c.in-Line.ensures.next.0 c.in-Line.has_end _ _ _ _ _ _ _ (standing c.answer.new.bench.state (g.P.Saves.place c.answer.new.place c.answer.new.bench.loaded)) (c.in-Ok.ensures.line sure).0 (c.lines.invariant.0 (c.in-Ok.ensures.agreed sure)) c.in-Line.ensures.next.1
+    λ sure. one_more _ _ _ _ (device_of g.S.Read.remaining c.args.script.now) _ _ c.in-Line.ensures.next.0 c.in-Line.has_end _ _ _ _ _ _ _ (standing c.answer.new.bench.state (g.P.Saves.place c.answer.new.place c.answer.new.bench.loaded)) (c.in-Ok.ensures.line sure).0 (c.lines.invariant.0 (c.in-Ok.ensures.reads.agreed sure)) c.in-Line.ensures.next.1
         (omega (arith, c.in-Line.ensures.never_falls, c.in-Ok.ensures.never_falls))
         ((c.in-Ok.ensures.line sure).1 c.in-Line.ensures.next.0 c.in-Line.ensures.next.2 _ c.in-Line.ensures.never_falls c.in-Line.ensures.lost) _ c.if-told.refused c.saturating_add-written.result (c.in-Ok.ensures.line sure).2.0
         (none_refused _ _ _ (sym (c.in-Ok.ensures.line sure).2.2 ∙ w.if-told.false) w.refused-is)
@@ -65,7 +65,7 @@ lines-preserved g c = elim c.if-told.branch [
     c.in-Line.ensures.failures ∙ c.lines.invariant.1,
     omega (arith, c.lines.invariant.2, w.refused-is),
     read_as_then _ _ _ c.lines.invariant.3 c.in-Ok.ensures.same,
-    λ sure. c.lines.invariant.4 (c.in-Ok.ensures.agreed sure),
+    record { agreed = λ sure. c.lines.invariant.4.agreed (c.in-Ok.ensures.reads.agreed sure); failures = omega (arith, c.lines.invariant.4.failures, c.in-Ok.ensures.reads.failures) },
     c.in-Ok.ensures.loaded ∙ c.lines.invariant.5,
     omega (arith, c.in-Line.ensures.never_falls, c.in-Ok.ensures.never_falls, c.lines.invariant.6),
   )
@@ -89,12 +89,12 @@ returns-clause-lines g c = λ sure.
 pub returns-then-not-has_end-clause-lines : goal.returns-then-not-has_end-clause-lines
 returns-then-not-has_end-clause-lines g c = λ sure. rw c.cut_short.ensures (elim c.if-told.branch [
   | then-told+else-stop w ↦
-      cut_short _ _ _ _ (device_of g.S.Read.remaining c.args.script.now) _ _ c.in-Line.ensures.next.0 c.in-Line.has_end _ _ _ _ _ _ _ (standing c.answer.new.bench.state (g.P.Saves.place c.answer.new.place c.answer.new.bench.loaded)) (c.in-Ok.ensures.line sure).0 (c.lines.invariant.0 (c.in-Ok.ensures.agreed sure)) c.in-Line.ensures.next.1
+      cut_short _ _ _ _ (device_of g.S.Read.remaining c.args.script.now) _ _ c.in-Line.ensures.next.0 c.in-Line.has_end _ _ _ _ _ _ _ (standing c.answer.new.bench.state (g.P.Saves.place c.answer.new.place c.answer.new.bench.loaded)) (c.in-Ok.ensures.line sure).0 (c.lines.invariant.0 (c.in-Ok.ensures.reads.agreed sure)) c.in-Line.ensures.next.1
       (omega (arith, c.in-Line.ensures.never_falls, c.in-Ok.ensures.never_falls))
       ((c.in-Ok.ensures.line sure).1 c.in-Line.ensures.next.0 c.in-Line.ensures.next.2 _ c.in-Line.ensures.never_falls c.in-Line.ensures.lost) (device_of g.S.Read.remaining c.next_line.new.source) _ c.if-told.refused (c.in-Ok.ensures.line sure).2.0
       (one_refused _ _ _ (sym (c.in-Ok.ensures.line sure).2.2 ∙ w.if-told.true) w.refused-is) (λ s. absurd (not_both c.args.stop s w.if-stop.false)) c.if-not-has_end.true (c.in-Line.ensures.next.3 c.if-not-has_end.true) (c.in-Line.ensures.failures ∙ c.lines.invariant.1)
   | else-told w ↦
-      cut_short _ _ _ _ (device_of g.S.Read.remaining c.args.script.now) _ _ c.in-Line.ensures.next.0 c.in-Line.has_end _ _ _ _ _ _ _ (standing c.answer.new.bench.state (g.P.Saves.place c.answer.new.place c.answer.new.bench.loaded)) (c.in-Ok.ensures.line sure).0 (c.lines.invariant.0 (c.in-Ok.ensures.agreed sure)) c.in-Line.ensures.next.1
+      cut_short _ _ _ _ (device_of g.S.Read.remaining c.args.script.now) _ _ c.in-Line.ensures.next.0 c.in-Line.has_end _ _ _ _ _ _ _ (standing c.answer.new.bench.state (g.P.Saves.place c.answer.new.place c.answer.new.bench.loaded)) (c.in-Ok.ensures.line sure).0 (c.lines.invariant.0 (c.in-Ok.ensures.reads.agreed sure)) c.in-Line.ensures.next.1
       (omega (arith, c.in-Line.ensures.never_falls, c.in-Ok.ensures.never_falls))
       ((c.in-Ok.ensures.line sure).1 c.in-Line.ensures.next.0 c.in-Line.ensures.next.2 _ c.in-Line.ensures.never_falls c.in-Line.ensures.lost) (device_of g.S.Read.remaining c.next_line.new.source) _ c.if-told.refused (c.in-Ok.ensures.line sure).2.0
       (none_refused _ _ _ (sym (c.in-Ok.ensures.line sure).2.2 ∙ w.if-told.false) w.refused-is) (λ s. sym (c.in-Ok.ensures.line sure).2.2 ∙ w.if-told.false) c.if-not-has_end.true (c.in-Line.ensures.next.3 c.if-not-has_end.true) (c.in-Line.ensures.failures ∙ c.lines.invariant.1)

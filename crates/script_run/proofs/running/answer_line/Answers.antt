@@ -8,7 +8,7 @@ use Rattle.script_run.proofs.running.answer_line.Goals as goal
 pub returns-clause-line : goal.returns-clause-line
 returns-clause-line g c = λ sure.
     let wrote = c.write_reply-told.ensures in
-    let before = wrote.agreed sure in
+    let before = wrote.reads.agreed sure in
     let told = wrote.written sure (c.run_line-reply.ensures.there before) in (
       told.0,
       rw wrote.state (c.run_line-reply.ensures.step before told.0 told.1),

@@ -15,30 +15,30 @@ lines-init g c =
       omega (arith, few, c.requires),
       omega arith,
       read_as_itself c.args.bench.now.state,
-      λ sure. sure,
+      record { agreed = λ sure. sure; failures = omega arith },
       refl,
       omega arith,
     )
 
 pub returns-in-Err-clause-lines : goal.returns-in-Err-clause-lines
 returns-in-Err-clause-lines g c = λ sure.
-    breaks_off _ _ _ _ _ _ _ _ _ _ _ _ _ _ c.answer_line.new.bench.state (c.in-Err.ensures.line sure).0 (rw c.in-Some.ensures.some at c.lines.invariant.0 (c.in-Err.ensures.agreed sure)) c.in-Err.ensures.never_falls (c.in-Err.ensures.line sure).1
+    breaks_off _ _ _ _ _ _ _ _ _ _ _ _ _ _ c.answer_line.new.bench.state (c.in-Err.ensures.line sure).0 (rw c.in-Some.ensures.some at c.lines.invariant.0 (c.in-Err.ensures.reads.agreed sure)) c.in-Err.ensures.never_falls (c.in-Err.ensures.line sure).1
     c.args.script.now _ (c.in-Err.ensures.line sure).2.0 c.saturating_add.result refl (c.in-Err.ensures.line sure).2.2 (omega (arith, c.saturating_add.ensures, (c.in-Err.ensures.line sure).2.1))
 
 pub returns-then-stop-clause-lines : goal.returns-then-stop-clause-lines
 returns-then-stop-clause-lines g c = λ sure.
-    stops _ _ _ _ _ _ _ _ _ _ _ _ _ _ c.answer_line.new.bench.state (c.in-Ok.ensures.line sure).0 (rw c.in-Some.ensures.some at c.lines.invariant.0 (c.in-Ok.ensures.agreed sure)) c.in-Ok.ensures.never_falls (c.in-Ok.ensures.line sure).1
+    stops _ _ _ _ _ _ _ _ _ _ _ _ _ _ c.answer_line.new.bench.state (c.in-Ok.ensures.line sure).0 (rw c.in-Some.ensures.some at c.lines.invariant.0 (c.in-Ok.ensures.reads.agreed sure)) c.in-Ok.ensures.never_falls (c.in-Ok.ensures.line sure).1
     c.args.script.now _ refl (c.in-Ok.ensures.line sure).2.0 (sym (c.in-Ok.ensures.line sure).2.2 ∙ c.if-told.true) c.if-stop.true
 
 pub lines-preserved-then-told : goal.lines-preserved-then-told
 lines-preserved-then-told g c = (
-  λ sure. one_more _ _ _ _ _ _ _ _ _ _ _ _ _ _ c.answer_line.new.bench.state (c.in-Ok.ensures.line sure).0 (rw c.in-Some.ensures.some at c.lines.invariant.0 (c.in-Ok.ensures.agreed sure)) c.in-Ok.ensures.never_falls (c.in-Ok.ensures.line sure).1
+  λ sure. one_more _ _ _ _ _ _ _ _ _ _ _ _ _ _ c.answer_line.new.bench.state (c.in-Ok.ensures.line sure).0 (rw c.in-Some.ensures.some at c.lines.invariant.0 (c.in-Ok.ensures.reads.agreed sure)) c.in-Ok.ensures.never_falls (c.in-Ok.ensures.line sure).1
       _ (c.lines.refused + 1) c.saturating_add-written.result (c.in-Ok.ensures.line sure).2.0 (rw (← (c.in-Ok.ensures.line sure).2.2, c.if-told.true) refl)
       (omega (arith, c.saturating_add-written.ensures, (c.in-Ok.ensures.line sure).2.1)) (λ s. absurd (goes_on c.args.stop s c.if-stop.false)),
   omega (arith, c.lines.invariant.1, ap length c.in-Some.ensures.some),
   omega (arith, c.lines.invariant.2),
   read_as_then _ _ _ c.lines.invariant.3 c.in-Ok.ensures.same,
-  λ sure. c.lines.invariant.4 (c.in-Ok.ensures.agreed sure),
+  record { agreed = λ sure. c.lines.invariant.4.agreed (c.in-Ok.ensures.reads.agreed sure); failures = omega (arith, c.lines.invariant.4.failures, c.in-Ok.ensures.reads.failures) },
   c.in-Ok.ensures.loaded ∙ c.lines.invariant.5,
   omega (arith, c.in-Ok.ensures.never_falls, c.lines.invariant.6),
 )
@@ -48,13 +48,13 @@ lines-preserved-then-told g c = (
 
 pub lines-preserved : goal.lines-preserved
 lines-preserved g c = (
-  λ sure. one_more _ _ _ _ _ _ _ _ _ _ _ _ _ _ c.answer_line.new.bench.state (c.in-Ok.ensures.line sure).0 (rw c.in-Some.ensures.some at c.lines.invariant.0 (c.in-Ok.ensures.agreed sure)) c.in-Ok.ensures.never_falls (c.in-Ok.ensures.line sure).1
+  λ sure. one_more _ _ _ _ _ _ _ _ _ _ _ _ _ _ c.answer_line.new.bench.state (c.in-Ok.ensures.line sure).0 (rw c.in-Some.ensures.some at c.lines.invariant.0 (c.in-Ok.ensures.reads.agreed sure)) c.in-Ok.ensures.never_falls (c.in-Ok.ensures.line sure).1
       _ c.lines.refused c.saturating_add-written.result (c.in-Ok.ensures.line sure).2.0 (rw (← (c.in-Ok.ensures.line sure).2.2, c.if-told.false, add-zero) refl)
       (omega (arith, c.saturating_add-written.ensures, (c.in-Ok.ensures.line sure).2.1)) (λ s. sym (c.in-Ok.ensures.line sure).2.2 ∙ c.if-told.false),
   omega (arith, c.lines.invariant.1, ap length c.in-Some.ensures.some),
   omega (arith, c.lines.invariant.2),
   read_as_then _ _ _ c.lines.invariant.3 c.in-Ok.ensures.same,
-  λ sure. c.lines.invariant.4 (c.in-Ok.ensures.agreed sure),
+  record { agreed = λ sure. c.lines.invariant.4.agreed (c.in-Ok.ensures.reads.agreed sure); failures = omega (arith, c.lines.invariant.4.failures, c.in-Ok.ensures.reads.failures) },
   c.in-Ok.ensures.loaded ∙ c.lines.invariant.5,
   omega (arith, c.in-Ok.ensures.never_falls, c.lines.invariant.6),
 )

@@ -24,7 +24,7 @@ pub returns-in-Ok-save-clause-run : goal.returns-in-Ok-save-clause-run
 returns-in-Ok-save-clause-run g c = λ before after refusals before_all loaded sure. (
   c.run_lines.new.bench.state,
   runs_through c.steps_stay_cut.ensures c.args.bench.now.state.on_disk c.args.options _ _ c.args.bench.now.state c.run_lines.new.bench.state c.in-Ok.lines.items loaded c.in-Ok.ensures.ok
-      c.in-Whole.refused (runs_in _ _ (refused_within refusals _ _ _ (omega (arith, before_all, c.in-Ok.ensures.memory.never_falls)) (omega arith)) _ _ _ _ _ _ (Whole c.in-Whole.refused) (rw c.as_slice.ensures.value at (c.in-Whole.ensures.lines (c.in-Ok-save.ensures.agreed sure)))),
+      c.in-Whole.refused (runs_in _ _ (refused_within refusals _ _ _ (omega (arith, before_all, c.in-Ok.ensures.memory.never_falls)) (omega arith)) _ _ _ _ _ _ (Whole c.in-Whole.refused) (rw c.as_slice.ensures.value at (c.in-Whole.ensures.lines (c.in-Ok-save.ensures.reads.agreed sure)))),
   rw c.if-options.true (c.in-Ok-save.ensures.saved sure),
 )
 
@@ -33,7 +33,7 @@ returns-in-Whole-clause-run g c = λ before after refusals before_all loaded sur
   c.in-Whole.refused,
   c.run_lines.new.bench.state,
   runs_through c.steps_stay_cut.ensures c.args.bench.now.state.on_disk c.args.options _ _ c.args.bench.now.state c.run_lines.new.bench.state c.in-Ok.lines.items loaded c.in-Ok.ensures.ok
-      c.in-Whole.refused (runs_in _ _ (refused_within refusals _ _ _ (omega (arith, before_all, c.in-Ok.ensures.memory.never_falls)) (omega arith)) _ _ _ _ _ _ (Whole c.in-Whole.refused) (rw c.as_slice.ensures.value at (c.in-Whole.ensures.lines (c.in-Err-save.ensures.agreed sure)))),
+      c.in-Whole.refused (runs_in _ _ (refused_within refusals _ _ _ (omega (arith, before_all, c.in-Ok.ensures.memory.never_falls)) (omega arith)) _ _ _ _ _ _ (Whole c.in-Whole.refused) (rw c.as_slice.ensures.value at (c.in-Whole.ensures.lines (c.in-Err-save.ensures.reads.agreed sure)))),
   c.if-options.true,
   rw c.in-Whole.ensures.same.on_disk at (c.in-Err-save.ensures.saved sure),
 )

@@ -30,7 +30,7 @@ returns-in-Ok-clause-session g c = λ before after refusals before_all loaded by
     let asked : (c.args.options.save && not c.in-Whole.is_cut_off) ≡ true = sym c.is_asked.ensures ∙ c.if-not-is_asked.false in (
       standing c.answer_lines.new.bench.state (g.P.Saves.place c.answer_lines.new.place c.answer_lines.new.bench.loaded),
       c.in-Whole.is_cut_off,
-      goes_through c.steps_stay_cut.ensures c.args.bench.now.state.on_disk c.args.options _ _ c.args.bench.now.state (standing c.answer_lines.new.bench.state (g.P.Saves.place c.answer_lines.new.place c.answer_lines.new.bench.loaded)) loaded (follows_loaded _ _ _ bytes (c.follows.ensures c.args.bench.now.loaded)) c.in-Whole.refused c.in-Whole.is_cut_off (answers_in _ _ (refused_within refusals _ _ _ before_all (c.in-Ok.ensures.never_falls)) _ _ _ (device_of g.S.Read.remaining c.args.script.now) (device_of g.S.Read.remaining c.answer_lines.new.script) (device_of g.A.Write.contents c.args.answers.now) (device_of g.A.Write.contents c.answer_lines.new.answers) (Whole c.in-Whole.refused c.in-Whole.is_cut_off) (c.in-Whole.ensures.lines (c.in-Ok.ensures.agreed sure))),
+      goes_through c.steps_stay_cut.ensures c.args.bench.now.state.on_disk c.args.options _ _ c.args.bench.now.state (standing c.answer_lines.new.bench.state (g.P.Saves.place c.answer_lines.new.place c.answer_lines.new.bench.loaded)) loaded (follows_loaded _ _ _ bytes (c.follows.ensures c.args.bench.now.loaded)) c.in-Whole.refused c.in-Whole.is_cut_off (answers_in _ _ (refused_within refusals _ _ _ before_all (c.in-Ok.ensures.never_falls)) _ _ _ (device_of g.S.Read.remaining c.args.script.now) (device_of g.S.Read.remaining c.answer_lines.new.script) (device_of g.A.Write.contents c.args.answers.now) (device_of g.A.Write.contents c.answer_lines.new.answers) (Whole c.in-Whole.refused c.in-Whole.is_cut_off) (c.in-Whole.ensures.lines (c.in-Ok.ensures.reads.agreed sure))),
       rw asked (_, c.in-Ok.ensures.saved sure),
     )
 
@@ -41,7 +41,7 @@ returns-in-Err-clause-session g c = λ before after refusals before_all loaded b
     let asked = asked_at_end c.args.options.save c.in-Whole.is_cut_off (sym c.is_asked.ensures ∙ c.if-not-is_asked.false) in (
       standing c.answer_lines.new.bench.state (g.P.Saves.place c.answer_lines.new.place c.answer_lines.new.bench.loaded),
       subst (λ (b : Bool). SessionThrough c.args.bench.now.state.on_disk c.args.options old new c.in-Whole.refused b (standing c.answer_lines.new.bench.state (g.P.Saves.place c.answer_lines.new.place c.answer_lines.new.bench.loaded))) asked.1
-          (goes_through c.steps_stay_cut.ensures c.args.bench.now.state.on_disk c.args.options old new c.args.bench.now.state (standing c.answer_lines.new.bench.state (g.P.Saves.place c.answer_lines.new.place c.answer_lines.new.bench.loaded)) loaded (follows_loaded _ _ _ bytes (c.follows.ensures c.args.bench.now.loaded)) c.in-Whole.refused c.in-Whole.is_cut_off (answers_in _ _ (refused_within refusals _ _ _ before_all (c.in-Err.ensures.never_falls)) _ _ _ (device_of g.S.Read.remaining c.args.script.now) (device_of g.S.Read.remaining c.answer_lines.new.script) (device_of g.A.Write.contents c.args.answers.now) (device_of g.A.Write.contents c.answer_lines.new.answers) (Whole c.in-Whole.refused c.in-Whole.is_cut_off) (c.in-Whole.ensures.lines (c.in-Err.ensures.agreed sure)))),
+          (goes_through c.steps_stay_cut.ensures c.args.bench.now.state.on_disk c.args.options old new c.args.bench.now.state (standing c.answer_lines.new.bench.state (g.P.Saves.place c.answer_lines.new.place c.answer_lines.new.bench.loaded)) loaded (follows_loaded _ _ _ bytes (c.follows.ensures c.args.bench.now.loaded)) c.in-Whole.refused c.in-Whole.is_cut_off (answers_in _ _ (refused_within refusals _ _ _ before_all (c.in-Err.ensures.never_falls)) _ _ _ (device_of g.S.Read.remaining c.args.script.now) (device_of g.S.Read.remaining c.answer_lines.new.script) (device_of g.A.Write.contents c.args.answers.now) (device_of g.A.Write.contents c.answer_lines.new.answers) (Whole c.in-Whole.refused c.in-Whole.is_cut_off) (c.in-Whole.ensures.lines (c.in-Err.ensures.reads.agreed sure)))),
       asked.0,
       (_, c.in-Err.ensures.saved sure),
     )

@@ -7,6 +7,7 @@ use Rattle.trace_record.specs.Facts.{facts_of}
 use Rattle.trace_record.specs.Packed.{record_in}
 use Rattle.trace_record.specs.declared.packed_record.PackedRecord.{PackedRecord}
 use Rattle.edit_overlay.specs.CountedVolume.{CountedVolume, IsSeen}
+use Rattle.edit_overlay.specs.Reads.{HaveAgreed}
 use Rattle.time_slice.specs.Fitting.{value_fits}
 use Rattle.time_slice.specs.Shown.{row_at}
 use Rattle.time_slice.proofs.CacheLemmas.{row_of_cell}
@@ -41,10 +42,10 @@ loop-at-preserved c =
     record {
       written = λ sure. row_is_written v.head k i o.payloads v.traces packed s old new _ here there
           (sample.sample sure ∙ (ap (λ (u : Volume). sample_of u.head (trace_at u (i + 1)) k) seen.volume ∙ ap (λ (n : ℕ). sample_of v.head (get_or v.traces n []) k) place))
-          grew (told.written (subst (λ (x : CountedVolume PackedRecord). IsTrue x.agreed) c.read_ahead.ensures (sample.agreed sure)));
+          grew (told.written (subst (λ (x : CountedVolume PackedRecord). HaveAgreed x.reads) c.read_ahead.ensures (sample.reads.agreed sure)));
       fits = fits_more v.head.format old new (i + 1) (facts_of (record_in packed)) s grew
           (subst (λ (u : Volume). IfSome s (λ x. IsTrue (value_fits u.head.format x))) seen.volume sample.fits) told.fits;
-      seen = seen_more o now c.sample_in.new.overlay i seen sample.looked sample.agreed;
+      seen = seen_more o now c.sample_in.new.overlay i seen sample.looked sample.reads;
       memory = grind arith;
     }
 

@@ -1,4 +1,4 @@
-use Rattle.std.proofs.Common.{◌≡◌, ◌≢◌, ◌∙◌, refl, ap, sym, rules, Option, Some, None}
+use Rattle.std.proofs.Common.{◌≡◌, ◌≢◌, ◌∙◌, refl, ap, sym, subst, rules, Option, Some, None}
 use Rattle.std.specs.Prelude.{IfSome}
 use Rattle.std.proofs.lemmas.Int.{to_z-of_z}
 use Rattle.std.specs.Int.{w128}
@@ -8,7 +8,9 @@ use Rattle.trace_view.specs.Shown.{bytes_of, head_of}
 use Rattle.bench_rules.specs.Refused.{set_refusal}
 use Rattle.bench_rules.specs.declared.refusal.Refusal.{Refusal}
 use Rattle.bench_rules.specs.declared.refusal.Refusal.TheVariants.{OutOfMemory}
+use Rattle.bench_rules.specs.ReadFaults.{IsRefusalOfNoRead}
 use Rattle.bench_rules.proofs.EditMemoryLemmas.{set_memory}
+use Rattle.bench_rules.proofs.NoReadLemmas.{set_free}
 use Rattle.bench_rules.proofs.SetLemmas.{refused_by}
 use Rattle.volume_answers.proofs.RoomLemmas.{room}
 use Rattle.volume_answers.proofs.refusals.value_refusal.Goals as goal
@@ -38,7 +40,7 @@ returns-clause-seen c =
     let o = c.args.overlay.now in
     let there = rw c.in-Some.is at c.in_ok-trace.ensures.there in
     let seen = rw (c.in_ok-trace.was, c.in-Some.is) at c.look.follows.holds-at-none in
-    rw (there.0 refl) (seen_more o o c.look.follows.lender-at-none 0 (seen_none o) seen.looked seen.agreed)
+    rw (there.0 refl) (seen_more o o c.look.follows.lender-at-none 0 (seen_none o) seen.looked seen.reads)
 
 pub returns-clause-other : goal.returns-clause-other
 returns-clause-other c =
@@ -51,3 +53,11 @@ returns-clause-other c =
     not_told : (o : Option Refusal) → (o ≡ Some OutOfMemory → ⊥) → IfSome o (λ r. r ≢ OutOfMemory)
     not_told None never = tt
     not_told (Some r) never = λ e. never (ap Some e)
+
+pub returns-clause-rule : goal.returns-clause-rule
+returns-clause-rule c =
+    let fit : SFits w128 c.args.value = search rules in
+    let view = c.in-Some.trace in
+    subst (λ (o : Option Refusal). IfSome o IsRefusalOfNoRead)
+    (sym (c.set_refusal.ensures ∙ ap (set_refusal (head_of view) (bytes_of view) (Some c.args.place)) (to_z-of_z w128 c.args.value fit)))
+    (set_free (head_of view) (bytes_of view) (Some c.args.place) c.args.value)

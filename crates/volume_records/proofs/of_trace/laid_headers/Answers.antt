@@ -20,4 +20,4 @@ returns-in-Some-clause-seen c = seen_at_most c.args.overlay.now c.args.overlay.n
 
 pub returns-in-None-clause-seen : goal.returns-in-None-clause-seen
 returns-in-None-clause-seen c =
-    seen_more c.args.overlay.now c.args.overlay.now c.prepared_headers.new.overlay 0 (seen_none c.args.overlay.now) c.prepared_headers.ensures.looked c.prepared_headers.ensures.agreed
+    seen_more c.args.overlay.now c.args.overlay.now c.prepared_headers.new.overlay 0 (seen_none c.args.overlay.now) c.prepared_headers.ensures.looked c.prepared_headers.ensures.reads

@@ -1,5 +1,6 @@
-use Rattle.std.proofs.Common.{◌∙◌, ◌≤◌, IsTrue, length, subst, arith}
+use Rattle.std.proofs.Common.{◌∙◌, ◌≤◌, length, subst, arith}
 use Rattle.std.specs.Prelude.{Option, IfSome}
+use Rattle.edit_overlay.specs.Reads.{HaveAgreed}
 use Rattle.frame_cut.specs.Traces.{trace_at}
 use Rattle.trace_record.specs.declared.record.Record.{Record}
 use Rattle.volume_records.specs.Laid.{HasSamplesOf, IsLaid}
@@ -9,9 +10,9 @@ use Rattle.volume_records.proofs.of_trace.record_after.Goals as goal
 pub returns-in-Some-clause-record : goal.returns-in-Some-clause-record
 returns-in-Some-clause-record c =
     let v = c.args.overlay.now.prepared in
-    let has : IsTrue c.args.overlay.now.agreed → HasSamplesOf v.head c.args.fields.now.pairs (trace_at v c.args.p) c.in-Some.known =
+    let has : HaveAgreed c.args.overlay.now.reads → HasSamplesOf v.head c.args.fields.now.pairs (trace_at v c.args.p) c.in-Some.known =
     λ sure. subst (λ (o : Option Record). IfSome o (HasSamplesOf v.head c.args.fields.now.pairs (trace_at v c.args.p))) c.in-Some.is (c.requires.samples sure) in
-    if_ok c.laid_headers.result (λ r told sure. told sure ∙ has (c.laid_headers.ensures.seen.agreed sure)) c.laid_headers.ensures.record
+    if_ok c.laid_headers.result (λ r told sure. told sure ∙ has (c.laid_headers.ensures.seen.reads.agreed sure)) c.laid_headers.ensures.record
 
 pub returns-in-Some-clause-few : goal.returns-in-Some-clause-few
 returns-in-Some-clause-few c =
@@ -26,7 +27,7 @@ laid_headers-requires-clause-laid c =
 
 pub returns-in-None-clause-seen : goal.returns-in-None-clause-seen
 returns-in-None-clause-seen c =
-    seen_more c.args.overlay.now c.args.overlay.now c.prepared_record.new.overlay 0 (seen_none c.args.overlay.now) c.prepared_record.ensures.looked c.prepared_record.ensures.agreed
+    seen_more c.args.overlay.now c.args.overlay.now c.prepared_record.new.overlay 0 (seen_none c.args.overlay.now) c.prepared_record.ensures.looked c.prepared_record.ensures.reads
 
 pub returns-in-Some-clause-told : goal.returns-in-Some-clause-told
 returns-in-Some-clause-told c = λ known. c.laid_headers.ensures.told

@@ -10,7 +10,7 @@ use Rattle.volume_records.specs.Laid.{IsLaid}
 use Rattle.volume_records.proofs.LaidLemmas.{laid_at}
 use Rattle.volume_records.proofs.PassLemmas.{one_header_more, one_number_more}
 use Rattle.volume_records.proofs.RecordLemmas.{record_beside}
-use Rattle.volume_records.proofs.SeenLemmas.{seen_both}
+use Rattle.volume_records.proofs.SeenLemmas.{seen_at_most, seen_both}
 use Rattle.volume_records.proofs.of_traces.prepared_records.Goals as goal
 
 pub loop-k-preserved : goal.loop-k-preserved
@@ -29,7 +29,7 @@ loop-k-preserved c =
     let grew = c.in_ok-push.ensures.ok in
     let tells_of_part = subst (λ (size : ℕ). IsTrue (tells_record c.args.fields.now.pairs c.args.at size)) (sym c.part-part.ensures.length) in
     record {
-      made = λ sure. one_header_more v w c.args.fields.now.pairs (map record_in ps) p n (c.args.a + n) c.loop-k.records c.push.new.self c.in_ok-record.record c.record-known.result i.seen.prepared there known q (i.made (made.seen.agreed sure)) (made.record sure) grew;
+      made = λ sure. one_header_more v w c.args.fields.now.pairs (map record_in ps) p n (c.args.a + n) c.loop-k.records c.push.new.self c.in_ok-record.record c.record-known.result i.seen.prepared there known q (i.made (made.seen.reads.agreed sure)) (made.record sure) grew;
       numbers = one_number_more (map record_in ps) p n c.loop-k.records c.push.new.self c.in_ok-record.record c.record-known.result known made.number grew i.numbers;
       count = ap (λ (rs : List Record). length rs) grew ∙ (length_push c.loop-k.records c.in_ok-record.record ∙ ap (λ m. m + 1) i.count);
       seen = seen_both c.args.overlay.now c.loop-k.overlay c.laid_headers.new.overlay n 1 i.seen made.seen;
@@ -51,6 +51,12 @@ laid_headers-requires-clause-laid c =
     rw (← c.requires.parts) (omega (arith, c.requires.exact, mod-eq-sub-div-mul (length bytes) c.args.size, div-mul-le_self (length bytes) c.args.size)) in
     λ sure.
     let laid = laid_at o fields c.args.a c.args.count c.args.at c.args.size k p bytes c.part-part.result.now c.record-known.result c.requires.first c.requires.held c.requires.some long c.loop-k-test.true refl known
-    c.part-part.ensures.part c.part-part.ensures.length (c.requires.laid (seen.agreed sure)) in
+    c.part-part.ensures.part c.part-part.ensures.length (c.requires.laid (seen.reads.agreed sure)) in
     subst (λ (v : Volume). IsLaid v c.loop-k.overlay.prepared fields p c.args.at c.part-part.result.now c.record-known.result) (sym seen.volume)
     (subst (λ (v : Volume). IsLaid o.volume v fields p c.args.at c.part-part.result.now c.record-known.result) (sym seen.prepared) laid)
+
+pub returns-in_err-push-clause-seen : goal.returns-in_err-push-clause-seen
+returns-in_err-push-clause-seen c =
+    let n = c.loop-k.k in
+    let seen = seen_both c.args.overlay.now c.loop-k.overlay c.laid_headers.new.overlay n 1 c.loop-k.invariant.seen c.in_ok-record.ensures.seen in
+    seen_at_most c.args.overlay.now c.laid_headers.new.overlay (n + 1) c.args.count seen (omega (arith, c.loop-k-test.true))

@@ -18,9 +18,9 @@ loop-k-preserved c =
     let q : c.args.a + n ≡ p + n + 1 = omega (arith, c.requires.first) in
     let grew = c.in_ok-push.ensures.ok in
     record {
-      made = λ sure. one_record_behind v w c.args.fields.now.pairs p n (c.args.a + n) c.loop-k.records c.push.new.self c.in_ok-record.record i.seen.prepared there q (i.made (made.agreed sure)) (made.record sure) grew;
+      made = λ sure. one_record_behind v w c.args.fields.now.pairs p n (c.args.a + n) c.loop-k.records c.push.new.self c.in_ok-record.record i.seen.prepared there q (i.made (made.reads.agreed sure)) (made.record sure) grew;
       few = one_few_more v w c.args.a n c.loop-k.records c.push.new.self c.in_ok-record.record i.seen.prepared i.count grew made.few i.few;
       count = ap (λ (rs : List Record). length rs) grew ∙ (length_push c.loop-k.records c.in_ok-record.record ∙ ap (λ m. m + 1) i.count);
-      seen = seen_more c.args.overlay.now c.loop-k.overlay c.prepared_record.new.overlay n i.seen made.looked made.agreed;
+      seen = seen_more c.args.overlay.now c.loop-k.overlay c.prepared_record.new.overlay n i.seen made.looked made.reads;
       memory = grind arith;
     }

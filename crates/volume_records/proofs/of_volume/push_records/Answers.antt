@@ -33,6 +33,6 @@ loop-k-preserved c =
       volume = search rules;
       looks = search rules;
       loaded = search rules;
-      agreed = search rules;
+      reads = search rules;
       memory = grind arith;
     }

@@ -14,6 +14,6 @@ invariant-loop-k l = record {
   volume : l.loading.volume ≡ l.fn.loading.volume;
   looks : RisesAtMost l.fn.loading.looks l.loading.looks (length l.loading.payloads);
   loaded : l.loading.loaded ≡ l.fn.loading.loaded;
-  agreed : l.loading.agreed ≡ l.fn.loading.agreed;
+  reads : l.loading.reads ≡ l.fn.loading.reads;
   memory : l.initial.room ≤ l.room;
 }

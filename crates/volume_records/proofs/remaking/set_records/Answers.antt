@@ -41,5 +41,5 @@ loop-k-preserved c =
       prepared = search rules;
       looks = search rules;
       loaded = search rules;
-      agreed = search rules;
+      reads = search rules;
     }

@@ -11,5 +11,5 @@ invariant-loop-k l = record {
   prepared : l.overlay.prepared ≡ l.fn.overlay.volume;
   looks : l.overlay.looks ≡ l.fn.overlay.looks;
   loaded : l.overlay.loaded ≡ l.fn.overlay.loaded;
-  agreed : l.overlay.agreed ≡ l.fn.overlay.agreed;
+  reads : l.overlay.reads ≡ l.fn.overlay.reads;
 }

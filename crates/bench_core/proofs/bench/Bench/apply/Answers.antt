@@ -11,7 +11,7 @@ invariant_of-self-2 c =
     let old : State = c.self.inside.volume.state in
     let new : State = c.change.new.volume.state in
     let cache : Cache = c.self.inside.slices.entries in
-    let before = c.in_ok-moved.ensures.agreed in
+    let before = c.in_ok-moved.ensures.reads.agreed in
     record {
       slices = λ sure.
           let is = done old new c.args.edit.now _ (c.in_ok-moved.ensures.step sure) in
@@ -31,7 +31,7 @@ returns-clause-kept c =
     (λ sure.
     let is = done old new c.args.edit.now _ (c.in_ok-moved.ensures.step sure) in
     ap (λ (l : Cache). kept_numbers l) (c.follow.ensures.entries ∙ ap (λ (b : Bool). entries_after b c.args.edit.now cache) (c.in_ok-moved.ensures.moved sure))
-    ∙ numbers_follow old new c.args.edit.now cache (c.stands.ensures.cut (c.in_ok-moved.ensures.agreed sure)) is.0 is.1)
+    ∙ numbers_follow old new c.args.edit.now cache (c.stands.ensures.cut (c.in_ok-moved.ensures.reads.agreed sure)) is.0 is.1)
 
 pub returns-in_err-moved-clause-step : goal.returns-in_err-moved-clause-step
 returns-in_err-moved-clause-step c =

@@ -16,7 +16,7 @@ invariant_of-self-2 c =
     record {
       slices = λ sure.
           let is : c.slice.new.slices.entries ≡ entries = ap (λ (l : KeptSlices). l.entries) (c.in_ok-rows.ensures.ok sure) in
-          let right : AreSlicesOf s entries = asked_stays_right s.volume.head s.fields s.volume.traces old.capacity c.args.k old.entries (c.self.invariant.slices (c.in_ok-rows.ensures.agreed sure)) in
+          let right : AreSlicesOf s entries = asked_stays_right s.volume.head s.fields s.volume.traces old.capacity c.args.k old.entries (c.self.invariant.slices (c.in_ok-rows.ensures.reads.agreed sure)) in
           subst (λ (u : State). AreSlicesOf u c.slice.new.slices.entries) (sym c.in_ok-rows.ensures.state) (subst (λ (l : Cache). AreSlicesOf s l) (sym is) right);
       capacity = asked_room _ _ _ _ c.in_ok-rows.ensures.asked ∙ c.self.invariant.capacity;
     }

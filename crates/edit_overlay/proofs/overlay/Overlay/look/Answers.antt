@@ -5,7 +5,7 @@ use Rattle.trace_store.specs.Stores.{traces_of}
 use Rattle.edit_overlay.specs.CountedVolume.{CountedVolume, after_look}
 use Rattle.edit_overlay.specs.Held.{looked_of, IsReread}
 use Rattle.edit_overlay.proofs.HeldLemmas.{held_reread}
-use Rattle.edit_overlay.proofs.LookLemmas.{failed_on_disk, has_looked, has_shape, has_shown, head_looked, traces_looked}
+use Rattle.edit_overlay.proofs.LookLemmas.{failed_on_disk, has_missed, has_shape, has_shown, head_looked, traces_looked}
 use Rattle.edit_overlay.proofs.StandingLemmas.{trace_there}
 use Rattle.edit_overlay.proofs.overlay.Overlay.look.Goals as goal
 
@@ -28,12 +28,12 @@ returns-in_err-fetch g c =
     let o = c.args.self.now in
     let f = c.fetch.ensures in
     let reread : IsReread c.self.inside.laid.store c.fetch.new.self = record { head = f.head; order = f.order; slots = f.slots; loaded = f.loaded } in
-    let counted : looked_of c.self.inside ≡ after_look o o.agreed = c.self.view_is ∙ c.count_look.ensures in
+    let counted : looked_of c.self.inside ≡ after_look o o.reads = c.self.view_is ∙ c.count_look.ensures in
     let there : IsTrue (is_trace o.volume c.args.p) = trace_there o.volume c.args.p (omega arith) (omega (arith, c.if-p-count.false, c.count.ensures)) in
     let p = err_from_is_err_and c.from_residual.result c.from_residual.ensures.1 in
     let failed : IsTrue o.loaded.on_disk = failed_on_disk o c.self.inside (record c.self.inside.laid { store = c.fetch.new.self }) reread refl counted c.fetch.result c.in_err-fetch.field-0.0 c.in_err-fetch.was f.memory in
     rw (rw p.2 at p.1) (
-      (refl, λ _. tt, has_looked o c.self.inside (record c.self.inside.laid { store = c.fetch.new.self }) reread refl counted),
+      (refl, λ _. tt, has_missed o c.self.inside (record c.self.inside.laid { store = c.fetch.new.self }) reread refl counted c.in_err-fetch.field-0.0 c.self.invariant.lends c.in_err-fetch.ensures.fault),
       record { ends = tt; there = tt; shape = tt; read = (there, failed) },
     )
 
@@ -44,7 +44,7 @@ returns g c =
     let t = c.fetch.new.self in
     let view = c.shown.result in
     let reread : IsReread c.self.inside.laid.store t = record { head = f.head; order = f.order; slots = f.slots; loaded = f.loaded } in
-    let counted : looked_of c.self.inside ≡ after_look o o.agreed = c.self.view_is ∙ c.count_look.ensures in
+    let counted : looked_of c.self.inside ≡ after_look o o.reads = c.self.view_is ∙ c.count_look.ensures in
     let there : IsTrue (is_trace o.volume c.args.p) = trace_there o.volume c.args.p (omega arith) (omega (arith, c.if-p-count.false, c.count.ensures)) in
     let head = head_looked o c.self.inside (record c.self.inside.laid { store = t }) reread refl counted in
     let traces = traces_looked o c.self.inside (record c.self.inside.laid { store = t }) reread refl counted in (

@@ -5,7 +5,7 @@ use Rattle.trace_store.specs.Ahead.{traces_ahead}
 use Rattle.edit_overlay.specs.CountedVolume.{CountedVolume, after_look}
 use Rattle.edit_overlay.specs.Held.{looked_of}
 use Rattle.edit_overlay.proofs.HeldLemmas.{held_relaid, same_reread}
-use Rattle.edit_overlay.proofs.LookLemmas.{failed_on_disk, has_looked, has_shape, has_shown, head_ahead, traces_looked_ahead}
+use Rattle.edit_overlay.proofs.LookLemmas.{failed_on_disk, has_missed, has_shape, has_shown, head_ahead, traces_looked_ahead}
 use Rattle.edit_overlay.proofs.StandingLemmas.{trace_there}
 use Rattle.edit_overlay.proofs.overlay.Overlay.look_prepared.Goals as goal
 
@@ -35,12 +35,12 @@ returns-in_err-fetch g c =
     let l = c.fetch.new.self in
     let reread = c.fetch.ensures.same in
     let kept = c.fetch.ensures.prepared in
-    let counted : looked_of c.self.inside ≡ after_look o o.agreed = c.self.view_is ∙ c.count_look.ensures in
+    let counted : looked_of c.self.inside ≡ after_look o o.reads = c.self.view_is ∙ c.count_look.ensures in
     let there : IsTrue (is_trace o.prepared c.args.p) = trace_there o.prepared c.args.p (omega arith) (omega (arith, c.if-p-count_prepared.false, c.count_prepared.ensures.prepared)) in
     let p = err_from_is_err_and c.from_residual.result c.from_residual.ensures.1 in
     let failed : IsTrue o.loaded.on_disk = failed_on_disk o c.self.inside l reread kept counted c.fetch.result c.in_err-fetch.field-0.0 c.in_err-fetch.was c.fetch.ensures.memory in
     rw (rw p.2 at p.1) (
-      (refl, λ _. tt, has_looked o c.self.inside l reread kept counted),
+      (refl, λ _. tt, has_missed o c.self.inside l reread kept counted c.in_err-fetch.field-0.0 c.self.invariant.lends c.in_err-fetch.ensures.fault),
       record { ends = tt; there = tt; shape = tt; read = (there, failed) },
     )
 
@@ -51,7 +51,7 @@ returns g c =
     let view = c.shown.result in
     let reread = c.fetch.ensures.same in
     let kept = c.fetch.ensures.prepared in
-    let counted : looked_of c.self.inside ≡ after_look o o.agreed = c.self.view_is ∙ c.count_look.ensures in
+    let counted : looked_of c.self.inside ≡ after_look o o.reads = c.self.view_is ∙ c.count_look.ensures in
     let there : IsTrue (is_trace o.prepared c.args.p) = trace_there o.prepared c.args.p (omega arith) (omega (arith, c.if-p-count_prepared.false, c.count_prepared.ensures.prepared)) in
     let ts : List (List ℕ) = traces_ahead l.store l.prepared in
     let head = head_ahead o c.self.inside l reread kept counted in

@@ -1,11 +1,13 @@
 use Rattle.std.proofs.Common.{IsTrue, IfErr, ap, subst, ◌∙◌}
-use Rattle.std.specs.Prelude.{IsSome}
+use Rattle.std.specs.Prelude.{IfSome, IsSome}
 use Rattle.frame_cut.specs.Volume.{bytes_of}
-use Rattle.edit_overlay.specs.CountedVolume.{CountedVolume, with_agreed}
+use Rattle.edit_overlay.specs.CountedVolume.{CountedVolume, with_reads}
 use Rattle.edit_overlay.specs.Saving.{Saves}
-use Rattle.edit_overlay.specs.Standings.{is_sure}
+use Rattle.edit_overlay.specs.Reads.{Follow, IsFaultOfLook}
+use Rattle.edit_overlay.specs.Standings.{reads_in}
 use Rattle.edit_overlay.proofs.HeldLemmas.{held_reread, shown_reread}
-use Rattle.edit_overlay.proofs.StandingLemmas.{agreed_before, sure_is}
+use Rattle.edit_overlay.proofs.SavingLemmas.{unread_on_disk, unread_told}
+use Rattle.edit_overlay.proofs.StandingLemmas.{reads_follow, sure_is}
 use Rattle.edit_overlay.proofs.overlay.Overlay.write_to.Goals as goal
 
 pub invariant_of-self : goal.invariant_of-self
@@ -14,11 +16,11 @@ invariant_of-self g c = held_reread c.self.inside c.write_volume.new.store c.wri
 pub returns-clause-same : goal.returns-clause-same
 returns-clause-same g c =
     let t = c.write_volume.new.store in
-    shown_reread c.self.inside t c.write_volume.ensures.same ∙ ap (λ (o : CountedVolume g.row.T.Denot). with_agreed o (is_sure t.loaded.standing)) c.self.view_is
+    shown_reread c.self.inside t c.write_volume.ensures.same ∙ ap (λ (o : CountedVolume g.row.T.Denot). with_reads o (reads_in t.loaded)) c.self.view_is
 
-pub returns-clause-agreed : goal.returns-clause-agreed
-returns-clause-agreed g c =
-    λ sure. subst (λ (o : CountedVolume g.row.T.Denot). IsTrue o.agreed) c.self.view_is (agreed_before c.self.inside.laid.store.loaded.standing c.write_volume.new.store.loaded.standing c.write_volume.ensures.same.loaded.standing sure)
+pub returns-clause-reads : goal.returns-clause-reads
+returns-clause-reads g c =
+    subst (λ (o : CountedVolume g.row.T.Denot). Follow o.reads (reads_in c.write_volume.new.store.loaded)) c.self.view_is (reads_follow c.self.inside.laid.store.loaded c.write_volume.new.store.loaded c.write_volume.ensures.same.loaded)
 
 pub returns-clause-saved : goal.returns-clause-saved
 returns-clause-saved g c =
@@ -26,4 +28,11 @@ returns-clause-saved g c =
     (c.write_volume.ensures.saved (sure_is c.write_volume.new.store.loaded.standing sure))
 
 pub returns-clause-read : goal.returns-clause-read
-returns-clause-read g c = subst (λ (o : CountedVolume g.row.T.Denot). IfErr c.write_volume.result (λ fault. IsSome fault.read → IsTrue o.loaded.on_disk)) c.self.view_is c.write_volume.ensures.read
+returns-clause-read g c =
+    subst (λ (o : CountedVolume g.row.T.Denot). IfErr c.write_volume.result (λ fault. IsSome fault.read → IsTrue o.loaded.on_disk)) c.self.view_is
+    (unread_on_disk c.write_volume.result c.self.inside.laid.store.loaded c.write_volume.new.store.loaded c.write_volume.ensures.read)
+
+pub returns-clause-fault : goal.returns-clause-fault
+returns-clause-fault g c =
+    subst (λ (o : CountedVolume g.row.T.Denot). IfErr c.write_volume.result (λ fault. IfSome fault.read (IsFaultOfLook o.reads (reads_in c.write_volume.new.store.loaded)))) c.self.view_is
+    (unread_told c.write_volume.result c.self.inside.laid.store.loaded c.write_volume.new.store.loaded c.write_volume.ensures.read)

@@ -14,7 +14,7 @@ pub returns-in-Err-clause-step : goal.returns-in-Err-clause-step
 returns-in-Err-clause-step c =
     let s : State = state_of c.self.inside in
     let look = looked_at c.self.inside c.choose.new.overlay _ c.choose.ensures.seen in
-    let free : range_refusal s.volume c.args.chosen.now.traces ≡ None = rw (← c.self.view_is) at (sym c.no_range.ensures ∙ c.in_default.is) in
+    let free : range_refusal s.volume c.args.chosen.now.traces ≡ None = rw (← c.self.view_is) at (sym c.no_range.ensures.refusal ∙ c.in_default.is) in
     let has : has_fields s.fields c.args.edit.now ≡ true = rw (← c.self.view_is) at (sym c.if-not-has_fields.ensures) in
     rw (← c.self.view_is, c.refusal_for.ensures) (λ sure. choice_told s c.args.chosen.now c.args.edit.now free has _ _ c.in-Err.fault sure look.state c.in-Err.ensures.err)
 
@@ -22,10 +22,10 @@ pub returns-in_err-edit_each-clause-step : goal.returns-in_err-edit_each-clause-
 returns-in_err-edit_each-clause-step c =
     let s : State = state_of c.self.inside in
     let look = looked_at c.self.inside c.choose.new.overlay _ c.choose.ensures.seen in
-    let free : range_refusal s.volume c.args.chosen.now.traces ≡ None = rw (← c.self.view_is) at (sym c.no_range.ensures ∙ c.in_default.is) in
+    let free : range_refusal s.volume c.args.chosen.now.traces ≡ None = rw (← c.self.view_is) at (sym c.no_range.ensures.refusal ∙ c.in_default.is) in
     let has : has_fields s.fields c.args.edit.now ≡ true = rw (← c.self.view_is) at (sym c.if-not-has_fields.ensures) in
     rw (← c.self.view_is) (λ sure.
-    each_refused s c.args.chosen.now c.args.edit.now free has c.in-Ok.traces.items (c.in-Ok.ensures.ok (c.edit_each.ensures.agreed sure) (c.self.invariant.records (c.choose.ensures.seen.agreed (c.edit_each.ensures.agreed sure)))) _ c.in_err-edit_each.field-0.0 c.from_residual.result
+    each_refused s c.args.chosen.now c.args.edit.now free has c.in-Ok.traces.items (c.in-Ok.ensures.ok (c.edit_each.ensures.reads.agreed sure) (c.self.invariant.records (c.choose.ensures.seen.reads.agreed (c.edit_each.ensures.reads.agreed sure)))) _ c.in_err-edit_each.field-0.0 c.from_residual.result
     c.from_residual.ensures.0 c.from_residual.ensures.1 c.in-Ok.ensures.few (c.in_err-edit_each.ensures.unchanged ∙ look.state)
     (subst (λ (u : State). IsRefusedFor u c.args.edit.now c.in-Ok.traces.items c.in_err-edit_each.field-0.0) look.state (rw c.as_slice.ensures.value at (c.in_err-edit_each.ensures.err sure))))
 

@@ -1,4 +1,4 @@
-use Rattle.std.proofs.Common.{◌∙◌, [], List, Ok, IsTrue, ap, sym, subst, inl, rules}
+use Rattle.std.proofs.Common.{◌∙◌, [], List, Ok, ap, sym, subst, inl, rules}
 use Rattle.std.proofs.lemmas.Int.{to_z-of_z}
 use Rattle.std.specs.Int.{w128}
 use mir.Val.{SFits}
@@ -7,6 +7,7 @@ use Rattle.trace_record.specs.Tally.{Same, tally_of}
 use Rattle.fault_live.specs.FaultKeys.{keys_of_faults}
 use Rattle.fault_live.specs.OfFaults.{tally_of_faults}
 use Rattle.edit_overlay.specs.CountedVolume.{RisesAtMost}
+use Rattle.edit_overlay.specs.Reads.{HaveAgreed}
 use Rattle.bench_rules.specs.declared.field.Field.{Field}
 use Rattle.bench_rules.specs.declared.query.Query.{Query}
 use Rattle.bench_rules.specs.declared.query.Query.TheVariants as queries
@@ -75,7 +76,7 @@ returns-in-Find-clause-reply c = λ sure.
 
 pub returns-in-Faults-clause-reply : goal.returns-in-Faults-clause-reply
 returns-in-Faults-clause-reply c = λ sure.
-    let before : IsTrue c.self.inside.overlay.agreed = subst (λ (t : Session). IsTrue t.agreed) (sym c.self.view_is) sure in
+    let before : HaveAgreed c.self.inside.overlay.reads = subst (λ (t : Session). HaveAgreed t.reads) (sym c.self.view_is) sure in
     let records : AreRecordsOf c.args.self.now.state (records_in c.self.inside) = rw (← c.self.view_is) (c.self.invariant.records before) in
     let counted : AreTriplesOf c.args.self.now.state c.triples.result.now =
     subst (λ (fs : List Facts). Same (tally_of_faults c.triples.result.now) (tally_of keys_of_faults fs)) records (c.triples.ensures (records_in c.self.inside) c.self.invariant.reports) in
@@ -83,13 +84,13 @@ returns-in-Faults-clause-reply c = λ sure.
 
 pub returns-in-Problems-clause-reply : goal.returns-in-Problems-clause-reply
 returns-in-Problems-clause-reply c = λ sure.
-    let before : IsTrue c.self.inside.overlay.agreed = c.problems_answer.ensures.seen.agreed sure in
+    let before : HaveAgreed c.self.inside.overlay.reads = c.problems_answer.ensures.seen.reads.agreed sure in
     let records : AreRecordsOf c.args.self.now.state (records_in c.self.inside) = rw (← c.self.view_is) (c.self.invariant.records before) in
     subst (λ (q : Query). IsReply c.args.self.now.state q c.problems_answer.result) (sym c.in-Problems.is) (c.problems_answer.ensures.reply c.args.self.now.state (sym (ap (λ (t : Session). t.state.volume) c.self.view_is)) (sym (ap (λ (t : Session). t.state.fields) c.self.view_is)) (sym (ap (λ (t : Session). t.state.on_disk) c.self.view_is)) sure records)
 
 pub returns-in-Survey-clause-reply : goal.returns-in-Survey-clause-reply
 returns-in-Survey-clause-reply c = λ sure.
-    let before : IsTrue c.self.inside.overlay.agreed = subst (λ (t : Session). IsTrue t.agreed) (sym c.self.view_is) sure in
+    let before : HaveAgreed c.self.inside.overlay.reads = subst (λ (t : Session). HaveAgreed t.reads) (sym c.self.view_is) sure in
     let records : AreRecordsOf c.args.self.now.state (records_in c.self.inside) = rw (← c.self.view_is) (c.self.invariant.records before) in
     subst (λ (q : Query). IsReply c.args.self.now.state q c.survey_answer.result) (sym c.in-Survey.is) (c.survey_answer.ensures.reply c.args.self.now.state records)
 
@@ -101,7 +102,7 @@ returns-in-Problems-clause-unchanged c = rw (← c.self.view_is) (looked_at c.se
 
 pub returns-in-Slice-clause-reply : goal.returns-in-Slice-clause-reply
 returns-in-Slice-clause-reply c = λ sure.
-    let before : IsTrue c.self.inside.overlay.agreed = c.slice_answer.ensures.seen.agreed sure in
+    let before : HaveAgreed c.self.inside.overlay.reads = c.slice_answer.ensures.seen.reads.agreed sure in
     let records : AreRecordsOf c.args.self.now.state (records_in c.self.inside) = rw (← c.self.view_is) (c.self.invariant.records before) in
     subst (λ (q : Query). IsReply c.args.self.now.state q c.slice_answer.result) (sym c.in-Slice.is) (c.slice_answer.ensures.reply c.args.self.now.state (sym (ap (λ (t : Session). t.state.volume) c.self.view_is)) (sym (ap (λ (t : Session). t.state.on_disk) c.self.view_is)) sure records)
 
@@ -156,6 +157,6 @@ returns-in-Extremes-clause-unchanged c = rw (← c.self.view_is) (looked_at c.se
 
 pub returns-in-OfChosen-clause-reply : goal.returns-in-OfChosen-clause-reply
 returns-in-OfChosen-clause-reply c = λ sure.
-    let before : IsTrue c.self.inside.overlay.agreed = c.chosen_answer.ensures.seen.agreed sure in
+    let before : HaveAgreed c.self.inside.overlay.reads = c.chosen_answer.ensures.seen.reads.agreed sure in
     let records : AreRecordsOf c.args.self.now.state (records_in c.self.inside) = rw (← c.self.view_is) (c.self.invariant.records before) in
     subst (λ (q : Query). IsReply c.args.self.now.state q c.chosen_answer.result) (sym c.in-OfChosen.is) (c.chosen_answer.ensures.reply c.args.self.now.state (sym (ap (λ (t : Session). t.state.volume) c.self.view_is)) (sym (ap (λ (t : Session). t.state.fields) c.self.view_is)) (sym (ap (λ (t : Session). t.state.on_disk) c.self.view_is)) sure records)

@@ -37,7 +37,7 @@ invariant_of-self c =
     let o = c.remake.new.overlay in
     let is : o.volume ≡ v = c.remake.ensures.volume in
     record {
-      cut = λ sure. subst (λ (u : Volume). IsCut (bytes_of u) b.reading b.limits u) (sym is) (c.self.invariant.cut (c.remake.ensures.agreed sure));
+      cut = λ sure. subst (λ (u : Volume). IsCut (bytes_of u) b.reading b.limits u) (sym is) (c.self.invariant.cut (c.remake.ensures.reads.agreed sure));
       frame = subst (HasFrame b.limits) (sym is) c.self.invariant.frame;
       prepared = c.remake.ensures.prepared ∙ sym is;
       extensions = c.set_geometry.ensures.extensions ∙ c.self.invariant.extensions ∙ ap (λ (u : Volume). u.head.extensions) (sym is);
@@ -60,11 +60,11 @@ invariant_of-self-in-Err c =
     let s = state_of b in
     let again = same_state s c.remake.new.overlay.volume c.set_geometry-in-Err.new.self.pairs c.remake.new.overlay.loaded.on_disk is same (ap (λ (l : Loaded). l.on_disk) c.remake.ensures.loaded) in
     record {
-      cut = λ sure. subst (λ (u : Volume). IsCut (bytes_of u) b.reading b.limits u) (sym is) (c.self.invariant.cut (c.remake.ensures.agreed sure));
+      cut = λ sure. subst (λ (u : Volume). IsCut (bytes_of u) b.reading b.limits u) (sym is) (c.self.invariant.cut (c.remake.ensures.reads.agreed sure));
       frame = subst (HasFrame b.limits) (sym is) c.self.invariant.frame;
       prepared = c.remake.ensures.prepared ∙ sym is;
       extensions = c.set_geometry-in-Err.ensures.extensions ∙ c.set_geometry.ensures.extensions ∙ c.self.invariant.extensions ∙ ap (λ (u : Volume). u.head.extensions) (sym is);
-      records = λ sure. ap (map facts_of) c.in-Err.ensures.err ∙ c.self.invariant.records (c.remake.ensures.agreed sure) ∙ ap (λ (u : Volume). records_of u old) (sym is) ∙ ap (λ (ps : Pairs). records_of c.remake.new.overlay.volume ps) (sym same);
+      records = λ sure. ap (map facts_of) c.in-Err.ensures.err ∙ c.self.invariant.records (c.remake.ensures.reads.agreed sure) ∙ ap (λ (u : Volume). records_of u old) (sym is) ∙ ap (λ (ps : Pairs). records_of c.remake.new.overlay.volume ps) (sym same);
       measured = subst (λ (l : List Record). AreMeasured l c.remake.new.overlay.volume.traces) (sym c.in-Err.ensures.err) (subst (λ (u : Volume). AreMeasured (records_in b) u.traces) (sym is) c.self.invariant.measured);
       reports = subst (λ (l : List Record). AreReportsOf b.reports l) (sym c.in-Err.ensures.err) c.self.invariant.reports;
     }

@@ -1,4 +1,5 @@
-use Rattle.std.proofs.Common.{◌≡◌, ◌∙◌, ◌+◌, ◌-◌, List, ℕ, length, IsTrue, None, ap, sym, subst, arith}
+use Rattle.std.proofs.Common.{◌≡◌, ◌∙◌, ◌+◌, ◌-◌, List, ℕ, length, None, ap, sym, subst, arith}
+use Rattle.edit_overlay.specs.Reads.{HaveAgreed}
 use Rattle.frame_cut.specs.Parts.{with_each}
 use Rattle.bench_rules.specs.declared.edit.Edit.{Edit}
 use Rattle.bench_rules.specs.declared.edit.Edit.TheVariants.{Compute}
@@ -15,19 +16,19 @@ use Rattle.live_volume.proofs.live_volume.LiveVolume.compute.Goals as goal
 
 pub offset-requires : goal.offset-requires
 offset-requires c =
-    let t : AreTraces c.args.self.now.state.volume c.args.a c.args.b None = in_range c.args.self.now.state.volume c.args.a c.args.b (sym c.in_default.is ∙ c.range_refusal.ensures) in
+    let t : AreTraces c.args.self.now.state.volume c.args.a c.args.b None = in_range c.args.self.now.state.volume c.args.a c.args.b (sym c.in_default.is ∙ c.range_refusal.ensures.refusal) in
     (c.in-Ok.ensures.each 0 (omega (arith, t.high))).first
 
 -- the traces are there
 range : (c : goal.After-as_slice) → AreTraces c.args.self.now.state.volume c.args.a c.args.b None
-range c = in_range c.args.self.now.state.volume c.args.a c.args.b (sym c.in_default.is ∙ c.range_refusal.ensures)
+range c = in_range c.args.self.now.state.volume c.args.a c.args.b (sym c.in_default.is ∙ c.range_refusal.ensures.refusal)
 
 -- the bytes fit over the traces, and the volume with them is the one behind the edit
-laid : (c : goal.After-as_slice) → IsTrue c.computed.new.self.agreed
+laid : (c : goal.After-as_slice) → HaveAgreed c.computed.new.self.reads
     → Lays c.args.self.now.state c.args.a c.args.b c.args.field.now c.args.source.now c.args.steps.now c.in-Some-place_in_trace.place c.from-at.result c.from.result c.as_slice.result.now
 laid c sure =
     lays c.args.self.now.state c.args.a c.args.b c.args.field.now c.args.source.now c.args.steps.now c.in-Some-place_in_trace.place c.from-at.result c.from.result c.as_slice.result.now
-    (c.stands.ensures.cut (c.computed.ensures.seen.agreed sure)) (range c) (sym c.in-Some-place_in_trace.is ∙ c.place_in_trace.ensures) (c.in-Ok.ensures.none sure)
+    (c.stands.ensures.cut (c.computed.ensures.seen.reads.agreed sure)) (range c) (sym c.in-Some-place_in_trace.is ∙ c.place_in_trace.ensures) (c.in-Ok.ensures.none sure)
     (c.from-at.ensures ∙ c.offset.ensures) c.from.ensures (c.as_slice.ensures.value ∙ c.in-Ok.ensures.bytes sure)
 
 -- they are as many parts
@@ -69,7 +70,7 @@ put_each-requires-clause-parts c = λ sure.
       some = f.some;
       exact = f.exact;
       last = f.last;
-      traces = (c.stands.ensures.cut (c.computed.ensures.seen.agreed sure)).parts.traces;
+      traces = (c.stands.ensures.cut (c.computed.ensures.seen.reads.agreed sure)).parts.traces;
       front = f.front;
       whole = f.whole;
       kept = f.kept;
@@ -82,14 +83,14 @@ put_each-requires-clause-cut c = λ sure.
 pub returns-in-Err-clause-step : goal.returns-in-Err-clause-step
 returns-in-Err-clause-step c = λ sure.
     compute_told _ c.args.self.now.state c.computed.new.self.state c.args.a c.args.b c.args.field.now c.args.source.now c.args.steps.now c.in-Some-place_in_trace.place c.in-Err.refusal
-    (in_range c.args.self.now.state.volume c.args.a c.args.b (sym c.in_default.is ∙ c.range_refusal.ensures)) (sym c.in-Some-place_in_trace.is ∙ c.place_in_trace.ensures) (under sure c.in-Err.ensures.err) c.computed.ensures.seen.state
+    (in_range c.args.self.now.state.volume c.args.a c.args.b (sym c.in_default.is ∙ c.range_refusal.ensures.refusal)) (sym c.in-Some-place_in_trace.is ∙ c.place_in_trace.ensures) (under sure c.in-Err.ensures.err) c.computed.ensures.seen.state
 
 pub returns-clause-step : goal.returns-clause-step
 returns-clause-step c = λ sure.
     let edit : Edit = Compute c.args.a c.args.b c.args.field.now c.args.source.now c.args.steps.now in
     let old : State = c.args.self.now.state in
     let mid : State = c.computed.new.self.state in
-    let l = laid c.before.before (c.put_each.ensures.agreed sure) in
+    let l = laid c.before.before (c.put_each.ensures.reads.agreed sure) in
     let done : IsAfter mid edit (record mid { volume = with_each mid.volume c.args.a c.from-at.result c.from.result c.as_slice.result.now }) =
     subst (λ (u : State). IsAfter u edit (record u { volume = with_each u.volume c.args.a c.from-at.result c.from.result c.as_slice.result.now })) (sym c.computed.ensures.seen.state) l.done in
     stepped old mid c.put_each.new.self.state edit c.put_each.result l.none c.computed.ensures.seen.state (record {})

@@ -1,4 +1,4 @@
-use Rattle.std.proofs.Common.{◌≡◌, ◌∙◌, ℕ, ◌+◌, ◌<◌, ◌≤◌, ◌^◌, List, length, Ok, IsTrue, ap, sym, subst, arith, rules}
+use Rattle.std.proofs.Common.{◌≡◌, ◌∙◌, ℕ, ◌+◌, ◌<◌, ◌≤◌, ◌^◌, List, length, Ok, ap, sym, subst, arith, rules}
 use Rattle.frame_cut.specs.Cuts.{IsCut}
 use Rattle.frame_cut.specs.Traces.{count_of}
 use Rattle.trace_store.specs.Swapped.{with_places_swapped, ArePlaces}
@@ -57,29 +57,29 @@ pub returns-in-Ok-clause-none : goal.returns-in-Ok-clause-none
 returns-in-Ok-clause-none c = λ sure.
     let s : State = c.args.self.now.state in
     let front = front_is s c.exchange_pairs.new.self.state c.args.traces.now c.in_ok-forth.forth.items c.exchange_pairs.ensures.state c.in_ok-forth.ensures.pairs in
-    let mid = c.exchange_pairs-2.ensures.agreed sure in
+    let mid = c.exchange_pairs-2.ensures.reads.agreed sure in
     (compute_done s c.exchange_pairs.new.self.state c.compute-done.new.self.state c.args.traces.now c.requires.rising c.requires.some front c.args.field.now c.args.source.now c.args.steps.now c.requires.fields c.in-Ok.field-0
-    (c.stands.ensures.cut (c.exchange_pairs.ensures.agreed (c.in-Ok.ensures.agreed mid))) (c.in-Ok.ensures.step mid)).0
+    (c.stands.ensures.cut (c.exchange_pairs.ensures.reads.agreed (c.in-Ok.ensures.reads.agreed mid))) (c.in-Ok.ensures.step mid)).0
 
 pub returns-in-Ok-clause-cut : goal.returns-in-Ok-clause-cut
 returns-in-Ok-clause-cut c = λ sure.
     let s : State = c.args.self.now.state in
     let front = front_is s c.exchange_pairs.new.self.state c.args.traces.now c.in_ok-forth.forth.items c.exchange_pairs.ensures.state c.in_ok-forth.ensures.pairs in
     let back = back_is c.compute-done.new.self.state c.exchange_pairs-2.new.self.state c.args.traces.now c.in_ok-back.back.items c.exchange_pairs-2.ensures.state c.in_ok-back.ensures.pairs in
-    let mid = c.exchange_pairs-2.ensures.agreed sure in
+    let mid = c.exchange_pairs-2.ensures.reads.agreed sure in
     subst (λ (u : State). IsCut (bytes_after_each s.volume s.fields (Compute c.args.field.now c.args.source.now c.args.steps.now) c.args.traces.now) s.reading s.limits u.volume) (sym back)
     (compute_done s c.exchange_pairs.new.self.state c.compute-done.new.self.state c.args.traces.now c.requires.rising c.requires.some front c.args.field.now c.args.source.now c.args.steps.now c.requires.fields c.in-Ok.field-0
-    (c.stands.ensures.cut (c.exchange_pairs.ensures.agreed (c.in-Ok.ensures.agreed mid))) (c.in-Ok.ensures.step mid)).1
+    (c.stands.ensures.cut (c.exchange_pairs.ensures.reads.agreed (c.in-Ok.ensures.reads.agreed mid))) (c.in-Ok.ensures.step mid)).1
 
 pub returns-in-Ok-clause-fields : goal.returns-in-Ok-clause-fields
 returns-in-Ok-clause-fields c = λ sure.
     let s : State = c.args.self.now.state in
     let front = front_is s c.exchange_pairs.new.self.state c.args.traces.now c.in_ok-forth.forth.items c.exchange_pairs.ensures.state c.in_ok-forth.ensures.pairs in
     let back = back_is c.compute-done.new.self.state c.exchange_pairs-2.new.self.state c.args.traces.now c.in_ok-back.back.items c.exchange_pairs-2.ensures.state c.in_ok-back.ensures.pairs in
-    let mid = c.exchange_pairs-2.ensures.agreed sure in
+    let mid = c.exchange_pairs-2.ensures.reads.agreed sure in
     ap (λ (u : State). u.fields) back
     ∙ (compute_done s c.exchange_pairs.new.self.state c.compute-done.new.self.state c.args.traces.now c.requires.rising c.requires.some front c.args.field.now c.args.source.now c.args.steps.now c.requires.fields c.in-Ok.field-0
-    (c.stands.ensures.cut (c.exchange_pairs.ensures.agreed (c.in-Ok.ensures.agreed mid))) (c.in-Ok.ensures.step mid)).2
+    (c.stands.ensures.cut (c.exchange_pairs.ensures.reads.agreed (c.in-Ok.ensures.reads.agreed mid))) (c.in-Ok.ensures.step mid)).2
 
 pub returns-in-Ok-clause-looks : goal.returns-in-Ok-clause-looks
 returns-in-Ok-clause-looks c =
@@ -93,7 +93,7 @@ returns-in-Err-clause-err c = λ sure.
     let s : State = c.args.self.now.state in
     let front = front_is s c.exchange_pairs.new.self.state c.args.traces.now c.in_ok-forth.forth.items c.exchange_pairs.ensures.state c.in_ok-forth.ensures.pairs in
     subst (λ (r : Refusal). IsRefusedFor s (Compute c.args.field.now c.args.source.now c.args.steps.now) c.args.traces.now r) (sym c.retold.ensures)
-    (compute_told s c.exchange_pairs.new.self.state c.compute-done.new.self.state c.args.traces.now c.requires.rising c.requires.some front c.args.field.now c.args.source.now c.args.steps.now c.requires.fields _ c.in-Err.refusal (c.in-Err.ensures.step (c.exchange_pairs-2.ensures.agreed sure)))
+    (compute_told s c.exchange_pairs.new.self.state c.compute-done.new.self.state c.args.traces.now c.requires.rising c.requires.some front c.args.field.now c.args.source.now c.args.steps.now c.requires.fields _ c.in-Err.refusal (c.in-Err.ensures.step (c.exchange_pairs-2.ensures.reads.agreed sure)))
 
 pub returns-in-Err-clause-unchanged : goal.returns-in-Err-clause-unchanged
 returns-in-Err-clause-unchanged c =

@@ -1,6 +1,7 @@
-use Rattle.std.proofs.Common.{◌≡◌, ◌∙◌, ℕ, ◌+◌, ◌-◌, List, length, IsTrue, None, sym, ap, subst, refl, rules, arith}
+use Rattle.std.proofs.Common.{◌≡◌, ◌∙◌, ℕ, ◌+◌, ◌-◌, List, length, None, sym, ap, subst, refl, rules, arith}
 use Rattle.std.proofs.lemmas.Int.{to_z-of_z}
 use Rattle.std.specs.Int.{w128}
+use Rattle.edit_overlay.specs.Reads.{Follow, HaveAgreed}
 use mir.Val.{SFits}
 use Rattle.frame_cut.specs.Parts.{with_each}
 use Rattle.bench_rules.specs.declared.edit.Edit.TheVariants.{Renumber}
@@ -31,7 +32,7 @@ pub offset-requires : goal.offset-requires
 offset-requires c = (c.requires.each 0 (omega (arith, c.requires.range))).first
 
 -- nothing refuses the values
-none_refused : (c : goal.After-as_slice) → IsTrue c.self.inside.overlay.agreed → first_refusal (state_of c.self.inside) (Renumber c.args.a c.args.b (field.Place c.args.place) c.args.first c.args.step) ≡ None
+none_refused : (c : goal.After-as_slice) → HaveAgreed c.self.inside.overlay.reads → first_refusal (state_of c.self.inside) (Renumber c.args.a c.args.b (field.Place c.args.place) c.args.first c.args.step) ≡ None
 none_refused c = rw (← c.self.view_is) at c.requires.none
 
 -- there are as many as traces
@@ -53,13 +54,13 @@ parts c =
     (ap (λ (l : List ℕ). length l) (bytes_are c) ∙ length-counted (state_of c.self.inside).volume.head.order c.args.place.kind c.args.first c.args.step (c.args.b + 1 - c.args.a)))
 
 -- and they fit there
-fit : (c : goal.After-as_slice) → IsTrue c.self.inside.overlay.agreed → ValuesFitIn (state_of c.self.inside) c.args.a (c.args.b + 1 - c.args.a) c.from-at.result c.from.result c.as_slice.result.now
+fit : (c : goal.After-as_slice) → HaveAgreed c.self.inside.overlay.reads → ValuesFitIn (state_of c.self.inside) c.args.a (c.args.b + 1 - c.args.a) c.from-at.result c.from.result c.as_slice.result.now
 fit c sure =
     renumber_fits (state_of c.self.inside) c.args.a c.args.b (field.Place c.args.place) c.args.first c.args.step c.args.place c.from-at.result c.from.result c.as_slice.result.now
     (c.self.invariant.cut sure) refl (none_refused c sure) (c.from-at.ensures ∙ c.offset.ensures) c.from.ensures (bytes_are c)
 
 -- the volume with them is the one behind the edit
-done : (c : goal.After-as_slice) → IsTrue c.self.inside.overlay.agreed → IsAfter (state_of c.self.inside) (Renumber c.args.a c.args.b (field.Place c.args.place) c.args.first c.args.step)
+done : (c : goal.After-as_slice) → HaveAgreed c.self.inside.overlay.reads → IsAfter (state_of c.self.inside) (Renumber c.args.a c.args.b (field.Place c.args.place) c.args.first c.args.step)
     (record (state_of c.self.inside) { volume = with_each (state_of c.self.inside).volume c.args.a c.from-at.result c.from.result c.as_slice.result.now })
 done c sure =
     renumber_done (state_of c.self.inside) c.args.a c.args.b (field.Place c.args.place) c.args.first c.args.step c.args.place c.from-at.result c.from.result c.as_slice.result.now
@@ -101,9 +102,9 @@ put_each-requires-clause-cut c =
 
 pub returns-clause-ok : goal.returns-clause-ok
 returns-clause-ok c =
-    let held : IsTrue c.put_each.new.self.agreed → IsTrue c.self.inside.overlay.agreed = rw (← c.self.view_is) at c.put_each.ensures.agreed in
+    let held : Follow c.self.inside.overlay.reads c.put_each.new.self.reads = rw (← c.self.view_is) at c.put_each.ensures.reads in
     on_ok c.put_each.result (λ e sure. subst (λ (u : State). IsAfter c.args.self.now.state (Renumber c.args.a c.args.b (field.Place c.args.place) c.args.first c.args.step) u) (sym e)
-    (rw (← c.self.view_is) (done c.before.before (held sure)))) c.put_each.ensures.ok
+    (rw (← c.self.view_is) (done c.before.before (held.agreed sure)))) c.put_each.ensures.ok
 
 pub returns-clause-same : goal.returns-clause-same
 returns-clause-same c = read_as_either _ c.put_each.result _ _ _ c.put_each.ensures.ok c.put_each.ensures.err

@@ -1,8 +1,9 @@
-use Rattle.std.proofs.Common.{◌≡◌, ◌∙◌, ℕ, ◌≤◌, IsTrue, List, length, map, ap, sym, subst, arith}
+use Rattle.std.proofs.Common.{◌≡◌, ◌∙◌, ℕ, ◌≤◌, List, length, map, ap, sym, subst, arith}
 use Rattle.frame_cut.specs.Traces.{count_of}
 use Rattle.frame_cut.specs.Volume.{Volume}
 use Rattle.trace_seq.specs.Without.{taken_out}
 use Rattle.edit_overlay.specs.CountedVolume.{with_traces, CountedVolume}
+use Rattle.edit_overlay.specs.Reads.{HaveAgreed}
 use Rattle.trace_record.specs.Packed.{record_in}
 use Rattle.trace_record.specs.declared.packed_record.PackedRecord.{PackedRecord}
 use Rattle.trace_record.specs.declared.record.Record.{Record}
@@ -53,13 +54,13 @@ invariant_of-self c =
     let made = ap (λ (o : CountedVolume PackedRecord). o.volume) after in
     let is : e.volume ≡ without_each v ps = made ∙ (ap (λ (ts : List (List ℕ)). with_traces v ts) c.delete_each.ensures.one_by_one ∙ sym (without_traces v ps)) in
     let gone : map record_in e.payloads ≡ taken_out rs ps = ap (λ (o : CountedVolume PackedRecord). map record_in o.payloads) after ∙ (ap (λ (qs : List PackedRecord). map record_in qs) c.delete_each.ensures.payloads_one_by_one ∙ map_out record_in b.overlay.payloads ps) in
-    let stays : e.agreed ≡ b.overlay.agreed = ap (λ (o : CountedVolume PackedRecord). o.agreed) after in
+    let stays : e.reads ≡ b.overlay.reads = ap (λ (o : CountedVolume PackedRecord). o.reads) after in
     let traces = ap (λ (w : Volume). w.traces) (without_traces v ps) in
     held_edited b e c.remove_each.new.self (without_each v ps) (taken_out rs ps) c.self.invariant is (ap (λ (o : CountedVolume PackedRecord). o.prepared) after ∙ sym made) gone (ap (λ (w : Volume). w.head) (without_traces v ps))
     (frame_out b.limits (state_of b) 1 ps c.self.invariant.frame (omega arith) up)
     (subst (λ (ts : List (List ℕ)). AreMeasured (taken_out rs ps) ts) (sym traces) (measured_out rs v.traces ps c.self.invariant.measured))
-    (λ sure. (without_cut (state_of b) 1 ps (omega arith) up).cut (c.self.invariant.cut (subst IsTrue stays sure)))
-    (λ sure. records_out v b.fields.pairs rs ps (c.self.invariant.records (subst IsTrue stays sure)))
+    (λ sure. (without_cut (state_of b) 1 ps (omega arith) up).cut (c.self.invariant.cut (subst HaveAgreed stays sure)))
+    (λ sure. records_out v b.fields.pairs rs ps (c.self.invariant.records (subst HaveAgreed stays sure)))
     (subst (λ (l : List Record). AreReportsOf c.remove_each.new.self (taken_out l ps)) same c.remove_each.ensures)
 
 pub returns-clause-volume : goal.returns-clause-volume

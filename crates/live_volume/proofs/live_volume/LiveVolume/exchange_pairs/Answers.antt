@@ -1,9 +1,10 @@
-use Rattle.std.proofs.Common.{◌≡◌, ◌∙◌, IsTrue, List, map, ap, sym, subst, refl}
+use Rattle.std.proofs.Common.{◌≡◌, ◌∙◌, List, map, ap, sym, subst, refl}
 use Rattle.std.specs.List.Sorted.{IsPermutation}
 use Rattle.frame_cut.specs.Traces.{count_of}
 use Rattle.frame_cut.specs.Volume.{Volume}
 use Rattle.trace_store.specs.Swapped.{with_swapped, with_places_swapped, ArePlaces}
 use Rattle.edit_overlay.specs.CountedVolume.{CountedVolume}
+use Rattle.edit_overlay.specs.Reads.{HaveAgreed}
 use Rattle.trace_record.specs.Packed.{record_in}
 use Rattle.trace_record.specs.declared.packed_record.PackedRecord.{PackedRecord}
 use Rattle.trace_record.specs.declared.record.Record.{Record}
@@ -28,9 +29,9 @@ invariant_of-self c =
     let e : CountedVolume PackedRecord = c.swap_each.new.self in
     let is : e.volume ≡ w = ap (λ (o : CountedVolume PackedRecord). o.volume) c.swap_each.ensures in
     let swapped : map record_in e.payloads ≡ with_swapped rs pairs = ap (λ (o : CountedVolume PackedRecord). map record_in o.payloads) c.swap_each.ensures ∙ sym (map-swapped record_in b.overlay.payloads pairs) in
-    let stays : e.agreed ≡ b.overlay.agreed = ap (λ (o : CountedVolume PackedRecord). o.agreed) c.swap_each.ensures in
+    let stays : e.reads ≡ b.overlay.reads = ap (λ (o : CountedVolume PackedRecord). o.reads) c.swap_each.ensures in
     held_edited b e b.reports w (with_swapped rs pairs) c.self.invariant is (ap (λ (o : CountedVolume PackedRecord). o.prepared) c.swap_each.ensures ∙ sym is) swapped refl
     (frame_swapped b.limits v pairs c.self.invariant.frame places) (measured_swapped rs v.traces pairs places c.self.invariant.measured)
-    (λ sure. cut_permuted b.reading b.limits v (with_swapped v.traces pairs) (c.self.invariant.cut (subst IsTrue stays sure)) (swapped-permutes v.traces pairs places))
-    (λ sure. records-swapped v b.fields.pairs rs pairs (c.self.invariant.records (subst IsTrue stays sure)))
+    (λ sure. cut_permuted b.reading b.limits v (with_swapped v.traces pairs) (c.self.invariant.cut (subst HaveAgreed stays sure)) (swapped-permutes v.traces pairs places))
+    (λ sure. records-swapped v b.fields.pairs rs pairs (c.self.invariant.records (subst HaveAgreed stays sure)))
     (counted-permuted b.reports.values rs (with_swapped rs pairs) same c.self.invariant.reports)

@@ -19,12 +19,12 @@ use Rattle.live_volume.proofs.live_volume.LiveVolume.fill_each.Goals as goal
 pub returns-in-Some-clause-err : goal.returns-in-Some-clause-err
 returns-in-Some-clause-err c = λ sure.
     let fit : SFits w128 c.args.value = search rules in
-    inr (inr (value_told c.args.self.now.state c.args.first c.args.last c.args.value c.args.traces.now c.in-Some.refusal (rw (to_z-of_z w128 c.args.value fit) at (sym c.sample_value_refusal.ensures ∙ c.in-Some.is))))
+    inr (inr (value_told c.args.self.now.state c.args.first c.args.last c.args.value c.args.traces.now c.in-Some.refusal (rw (to_z-of_z w128 c.args.value fit) at (sym c.sample_value_refusal.ensures.refusal ∙ c.in-Some.is))))
 
 pub returns-in-Err-clause-err : goal.returns-in-Err-clause-err
 returns-in-Err-clause-err c = λ sure.
     let fit : SFits w128 c.args.value = search rules in
-    fill_told c.args.self.now.state c.args.first c.args.last c.args.value c.args.traces.now (rw (to_z-of_z w128 c.args.value fit) at (sym c.sample_value_refusal.ensures ∙ c.in_default.is)) c.in-Err.refusal c.requires.some sure c.in-Err.ensures.err
+    fill_told c.args.self.now.state c.args.first c.args.last c.args.value c.args.traces.now (rw (to_z-of_z w128 c.args.value fit) at (sym c.sample_value_refusal.ensures.refusal ∙ c.in_default.is)) c.in-Err.refusal c.requires.some sure c.in-Err.ensures.err
 
 pub returns-in-Err-clause-looks : goal.returns-in-Err-clause-looks
 returns-in-Err-clause-looks c = looked_once _ _ _ c.sample_places.ensures.seen.looks
@@ -37,13 +37,13 @@ returns-then-first-last-clause-cut c = λ sure.
     let less : c.args.last < c.args.first = omega (arith, c.if-first-last.true) in
     let same = unfilled s.volume.head c.args.first c.args.last c.args.value s.volume ps less in
     subst (λ (u : State). IsCut (bytes_after_each s.volume s.fields (Fill c.args.first c.args.last c.args.value) ps) s.reading s.limits u.volume) (sym c.sample_places.ensures.seen.state)
-    (subst (λ (w : Volume). IsCut (bytes_of w) s.reading s.limits s.volume) (sym same) (c.stands.ensures.cut (c.sample_places.ensures.seen.agreed sure)))
+    (subst (λ (w : Volume). IsCut (bytes_of w) s.reading s.limits s.volume) (sym same) (c.stands.ensures.cut (c.sample_places.ensures.seen.reads.agreed sure)))
 
 pub put_filled-requires-clause-rising : goal.put_filled-requires-clause-rising
 put_filled-requires-clause-rising c = rw c.sample_places.ensures.seen.state c.requires.rising
 
 pub put_filled-requires-clause-fits : goal.put_filled-requires-clause-fits
-put_filled-requires-clause-fits c = rw c.sample_places.ensures.seen.state (sym c.sample_value_refusal.ensures ∙ c.in_default.is)
+put_filled-requires-clause-fits c = rw c.sample_places.ensures.seen.state (sym c.sample_value_refusal.ensures.refusal ∙ c.in_default.is)
 
 pub put_filled-requires-clause-none : goal.put_filled-requires-clause-none
 put_filled-requires-clause-none c = rw c.sample_places.ensures.seen.state c.in-Ok.ensures.none
@@ -59,7 +59,7 @@ returns-clause-none c =
     let fit : SFits w128 c.args.value = search rules in
     let s : State = c.args.self.now.state in
     on_ok c.put_filled.result
-    (λ done sure. fill_free s c.args.first c.args.last c.args.value c.args.traces.now (rw (to_z-of_z w128 c.args.value fit) at (sym c.sample_value_refusal.ensures ∙ c.in_default.is)) (c.in-Ok.ensures.none (c.put_filled.ensures.agreed sure))) c.put_filled.ensures.ok
+    (λ done sure. fill_free s c.args.first c.args.last c.args.value c.args.traces.now (rw (to_z-of_z w128 c.args.value fit) at (sym c.sample_value_refusal.ensures.refusal ∙ c.in_default.is)) (c.in-Ok.ensures.none (c.put_filled.ensures.reads.agreed sure))) c.put_filled.ensures.ok
 
 pub returns-clause-cut : goal.returns-clause-cut
 returns-clause-cut c =
@@ -69,11 +69,11 @@ returns-clause-cut c =
     let mid : c.sample_places.new.self.state ≡ s = c.sample_places.ensures.seen.state in
     on_ok c.put_filled.result
     (λ done sure.
-    let before = c.put_filled.ensures.agreed sure in
+    let before = c.put_filled.ensures.reads.agreed sure in
     let is : c.put_filled.new.self.state ≡ with_volume s (changed_each (filled s.volume.head c.args.first c.args.last c.args.value) s.volume ps) =
     done sure ∙ ap (λ (u : State). with_volume u (changed_each (filled u.volume.head c.args.first c.args.last c.args.value) u.volume ps)) mid in
     subst (λ (u : State). IsCut (bytes_after_each s.volume s.fields (Fill c.args.first c.args.last c.args.value) ps) s.reading s.limits u.volume) (sym is)
-    (fill_cut s c.args.first c.args.last c.args.value ps (rw (to_z-of_z w128 c.args.value fit) at (sym c.sample_value_refusal.ensures ∙ c.in_default.is)) (c.stands.ensures.cut (c.sample_places.ensures.seen.agreed before)) c.requires.rising (c.in-Ok.ensures.none before)))
+    (fill_cut s c.args.first c.args.last c.args.value ps (rw (to_z-of_z w128 c.args.value fit) at (sym c.sample_value_refusal.ensures.refusal ∙ c.in_default.is)) (c.stands.ensures.cut (c.sample_places.ensures.seen.reads.agreed before)) c.requires.rising (c.in-Ok.ensures.none before)))
     (rw (to_z-of_z w128 c.args.value fit) at c.put_filled.ensures.ok)
 
 pub returns-clause-fields : goal.returns-clause-fields
@@ -88,7 +88,7 @@ returns-clause-err c =
     let mid : c.sample_places.new.self.state ≡ s = c.sample_places.ensures.seen.state in
     if_err c.put_filled.result
     (λ r told sure.
-    fill_failed s c.args.first c.args.last c.args.value c.args.traces.now (rw (to_z-of_z w128 c.args.value fit) at (sym c.sample_value_refusal.ensures ∙ c.in_default.is)) r c.requires.some (subst (λ (u : State). IsOfMachine u.on_disk r) mid told.0))
+    fill_failed s c.args.first c.args.last c.args.value c.args.traces.now (rw (to_z-of_z w128 c.args.value fit) at (sym c.sample_value_refusal.ensures.refusal ∙ c.in_default.is)) r c.requires.some (subst (λ (u : State). IsOfMachine u.on_disk r) mid told.0))
     c.put_filled.ensures.err
 
 pub returns-clause-unchanged : goal.returns-clause-unchanged

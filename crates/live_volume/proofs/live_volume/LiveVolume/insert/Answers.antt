@@ -3,6 +3,7 @@ use Rattle.frame_cut.specs.Cuts.{IsCut, IsTrace}
 use Rattle.frame_cut.specs.Traces.{count_of}
 use Rattle.frame_cut.specs.Volume.{Volume, bytes_of}
 use Rattle.edit_overlay.specs.CountedVolume.{CountedVolume}
+use Rattle.edit_overlay.specs.Reads.{Reads, Follow, HaveAgreed}
 use Rattle.trace_record.specs.declared.packed_record.PackedRecord.{PackedRecord}
 use Rattle.frame_cut.specs.Parts.{with_inserted}
 use Rattle.trace_record.specs.Packed.{record_in}
@@ -72,14 +73,14 @@ invariant_of-self-in-Ok-insert c =
     let is : e.volume ≡ w = ap (λ (o : CountedVolume PackedRecord). o.volume) ok in
     let put : map record_in e.payloads ≡ insert rs i c.args.trace.now =
     ap (λ (o : CountedVolume PackedRecord). map record_in o.payloads) ok ∙ (map-insert record_in b.overlay.payloads i c.of.result ∙ ap (λ (r : Record). insert rs i r) c.of.ensures) in
-    let stays : e.agreed ≡ b.overlay.agreed = ap (λ (o : CountedVolume PackedRecord). o.agreed) ok in
-    let cut : IsTrue b.overlay.agreed → IsCut (bytes_of w) b.reading b.limits w = rw (← c.self.view_is) at c.requires.cut in
+    let stays : e.reads ≡ b.overlay.reads = ap (λ (o : CountedVolume PackedRecord). o.reads) ok in
+    let cut : HaveAgreed b.overlay.reads → IsCut (bytes_of w) b.reading b.limits w = rw (← c.self.view_is) at c.requires.cut in
     let own = rw (← c.self.view_is) at c.requires.record in
     held_edited b e c.insert.new.self w (insert rs i c.args.trace.now) c.self.invariant is (ap (λ (o : CountedVolume PackedRecord). o.prepared) ok ∙ sym is) put refl
     (frame_inserted b.limits v c.args.p t c.self.invariant.frame few small)
     (measured_insert rs v.traces i c.args.trace.now t c.requires.number (header_of_trace v.head t whole) c.self.invariant.measured)
-    (λ sure. cut (subst IsTrue stays sure))
-    (λ sure. records-with_inserted v b.fields.pairs rs c.args.p t c.args.trace.now (c.self.invariant.records (subst IsTrue stays sure)) (own (subst IsTrue stays sure)))
+    (λ sure. cut (subst HaveAgreed stays sure))
+    (λ sure. records-with_inserted v b.fields.pairs rs c.args.p t c.args.trace.now (c.self.invariant.records (subst HaveAgreed stays sure)) (own (subst HaveAgreed stays sure)))
     (subst (λ (l : List Record). AreReportsOf c.insert.new.self (insert l i c.args.trace.now)) same c.in-Ok.ensures.ok)
 
 pub take_back-requires-clause-counted : goal.take_back-requires-clause-counted
@@ -120,5 +121,5 @@ invariant_of-self-in-Err c =
     let again : c.new-in-Err.result ≡ records_in b =
     c.new-in-Err.ensures ∙ ap (λ (ps : List PackedRecord). map record_in ps) (c.payloads-in-Err.ensures ∙ stay) in
     held_unedited b e c.take_back.new.self c.self.invariant is (ap (λ (o : CountedVolume PackedRecord). o.prepared) err ∙ c.self.invariant.prepared ∙ sym is) stay
-    (λ sure. subst IsTrue (ap (λ (o : CountedVolume PackedRecord). o.agreed) err) sure)
+    (subst (λ (r : Reads). Follow b.overlay.reads r) (sym (ap (λ (o : CountedVolume PackedRecord). o.reads) err)) (record { agreed = λ sure. sure; failures = omega arith }))
     (subst (λ (l : List Record). AreReportsOf c.take_back.new.self l) again c.take_back.ensures)

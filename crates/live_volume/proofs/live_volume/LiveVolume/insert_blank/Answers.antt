@@ -1,4 +1,5 @@
-use Rattle.std.proofs.Common.{◌≡◌, ◌∙◌, IsTrue, sym, subst, refl}
+use Rattle.std.proofs.Common.{◌≡◌, ◌∙◌, sym, subst, refl}
+use Rattle.edit_overlay.specs.Reads.{Follow}
 use Rattle.frame_cut.specs.Parts.{with_inserted}
 use Rattle.frame_cut.specs.Volume.{Volume}
 use Rattle.bench_rules.specs.declared.edit.Edit.TheVariants.{Blank}
@@ -63,9 +64,9 @@ returns-clause-ok c =
     let none = rw (← c.self.view_is) at c.requires in
     let blank : c.in_ok-bytes.bytes.items ≡ blank_trace s.volume.head = c.in_ok-bytes.ensures.ok ∙ rw (c.blank_length.ensures.length, c.head-head.ensures) refl in
     let w : Volume = with_inserted s.volume c.args.p c.in_ok-bytes.bytes.items in
-    let held : IsTrue c.insert.new.self.agreed → IsTrue c.self.inside.overlay.agreed = rw (← c.self.view_is) at c.insert.ensures.agreed in
+    let held : Follow c.self.inside.overlay.reads c.insert.new.self.reads = rw (← c.self.view_is) at c.insert.ensures.reads in
     on_ok c.insert.result (λ e sure. subst (λ (u : State). IsAfter c.args.self.now.state (Blank c.args.p) u) (sym e)
-    (rw (← c.self.view_is) (blank_done s c.args.p w c.in_ok-bytes.bytes.items (c.self.invariant.cut (held sure)) none blank refl))) c.insert.ensures.ok
+    (rw (← c.self.view_is) (blank_done s c.args.p w c.in_ok-bytes.bytes.items (c.self.invariant.cut (held.agreed sure)) none blank refl))) c.insert.ensures.ok
 
 pub returns-clause-same : goal.returns-clause-same
 returns-clause-same c = read_as_either _ c.insert.result _ _ _ c.insert.ensures.ok c.insert.ensures.err

@@ -1,4 +1,5 @@
-use Rattle.std.proofs.Common.{◌≡◌, ◌∙◌, ◌-◌, ◌≤◌, ◌+◌, IsTrue, ap, sym, subst, refl, length, arith}
+use Rattle.std.proofs.Common.{◌≡◌, ◌∙◌, ◌-◌, ◌≤◌, ◌+◌, ap, sym, subst, refl, length, arith}
+use Rattle.edit_overlay.specs.Reads.{Follow, HaveAgreed}
 use Rattle.frame_cut.specs.Cuts.{IsTrace}
 use Rattle.frame_cut.specs.Parts.{with_inserted}
 use Rattle.frame_cut.specs.Traces.{count_of, trace_at}
@@ -62,11 +63,11 @@ insert-requires-clause-cut c =
     let s = state_of c.self.inside in
     let none = rw (← c.self.view_is) at c.requires in
     let st : c.trace_bytes.new.self.state ≡ s = c.trace_bytes.ensures.seen.state ∙ sym (ap (λ (x : Session). x.state) c.self.view_is) in
-    let copied : IsTrue c.trace_bytes.new.self.agreed → c.in_ok-bytes.bytes.items ≡ trace_at s.volume c.args.q = rw (← c.self.view_is) at c.in_ok-bytes.ensures.ok in
-    let before : IsTrue c.trace_bytes.new.self.agreed → IsTrue c.self.inside.overlay.agreed = rw (← c.self.view_is) at c.trace_bytes.ensures.seen.agreed in
+    let copied : HaveAgreed c.trace_bytes.new.self.reads → c.in_ok-bytes.bytes.items ≡ trace_at s.volume c.args.q = rw (← c.self.view_is) at c.in_ok-bytes.ensures.ok in
+    let before : Follow c.self.inside.overlay.reads c.trace_bytes.new.self.reads = rw (← c.self.view_is) at c.trace_bytes.ensures.seen.reads in
     let w : Volume = with_inserted s.volume c.args.p c.in_ok-bytes.bytes.items in
     λ sure. subst (λ (u : State). IsCutAs u (with_inserted u.volume c.args.p c.in_ok-bytes.bytes.items)) (sym st)
-    (after_cut s (Copy c.args.q c.args.p) w (copy_done s c.args.q c.args.p w c.in_ok-bytes.bytes.items (c.self.invariant.cut (before sure)) none (copied sure) refl))
+    (after_cut s (Copy c.args.q c.args.p) w (copy_done s c.args.q c.args.p w c.in_ok-bytes.bytes.items (c.self.invariant.cut (before.agreed sure)) none (copied sure) refl))
 
 pub insert-requires-clause-record : goal.insert-requires-clause-record
 insert-requires-clause-record c =
@@ -75,10 +76,10 @@ insert-requires-clause-record c =
     let none = rw (← c.self.view_is) at c.requires in
     let a = copy_accepted s c.args.q c.args.p none in
     let st : c.trace_bytes.new.self.state ≡ s = c.trace_bytes.ensures.seen.state ∙ sym (ap (λ (x : Session). x.state) c.self.view_is) in
-    let copied : IsTrue c.trace_bytes.new.self.agreed → c.in_ok-bytes.bytes.items ≡ trace_at s.volume c.args.q = rw (← c.self.view_is) at c.in_ok-bytes.ensures.ok in
-    let before : IsTrue c.trace_bytes.new.self.agreed → IsTrue c.self.inside.overlay.agreed = rw (← c.self.view_is) at c.trace_bytes.ensures.seen.agreed in
+    let copied : HaveAgreed c.trace_bytes.new.self.reads → c.in_ok-bytes.bytes.items ≡ trace_at s.volume c.args.q = rw (← c.self.view_is) at c.in_ok-bytes.ensures.ok in
+    let before : Follow c.self.inside.overlay.reads c.trace_bytes.new.self.reads = rw (← c.self.view_is) at c.trace_bytes.ensures.seen.reads in
     λ sure. subst (λ (u : State). facts_of c.record-trace.result ≡ record_of u.volume.head u.fields c.in_ok-bytes.bytes.items) (sym st)
-    (record_at s.volume s.fields (records_in c.self.inside) c.args.q c.record-trace.result a.source.first a.source.last (c.self.invariant.records (before sure))
+    (record_at s.volume s.fields (records_in c.self.inside) c.args.q c.record-trace.result a.source.first a.source.last (c.self.invariant.records (before.agreed sure))
     (record_beside ps ps (c.args.q - 1) (c.args.q - 1) c.payload.result c.record-trace.result refl refl c.payload.ensures c.record-trace.ensures)
     ∙ ap (record_of s.volume.head s.fields) (sym (copied sure)))
 
@@ -87,14 +88,14 @@ returns-clause-ok c =
     let s = state_of c.self.inside in
     let none = rw (← c.self.view_is) at c.requires in
     let st : c.trace_bytes.new.self.state ≡ s = c.trace_bytes.ensures.seen.state ∙ sym (ap (λ (x : Session). x.state) c.self.view_is) in
-    let copied : IsTrue c.trace_bytes.new.self.agreed → c.in_ok-bytes.bytes.items ≡ trace_at s.volume c.args.q = rw (← c.self.view_is) at c.in_ok-bytes.ensures.ok in
-    let before : IsTrue c.trace_bytes.new.self.agreed → IsTrue c.self.inside.overlay.agreed = rw (← c.self.view_is) at c.trace_bytes.ensures.seen.agreed in
+    let copied : HaveAgreed c.trace_bytes.new.self.reads → c.in_ok-bytes.bytes.items ≡ trace_at s.volume c.args.q = rw (← c.self.view_is) at c.in_ok-bytes.ensures.ok in
+    let before : Follow c.self.inside.overlay.reads c.trace_bytes.new.self.reads = rw (← c.self.view_is) at c.trace_bytes.ensures.seen.reads in
     let w : Volume = with_inserted s.volume c.args.p c.in_ok-bytes.bytes.items in
     on_ok c.insert.result (λ e sure.
-    let mid = c.insert.ensures.agreed sure in
+    let mid = c.insert.ensures.reads.agreed sure in
     subst (λ (u : State). IsAfter c.args.self.now.state (Copy c.args.q c.args.p) u) (sym e)
     (subst (λ (u : State). IsAfter c.args.self.now.state (Copy c.args.q c.args.p) (with_volume u (with_inserted u.volume c.args.p c.in_ok-bytes.bytes.items))) (sym st)
-    (rw (← c.self.view_is) (copy_done s c.args.q c.args.p w c.in_ok-bytes.bytes.items (c.self.invariant.cut (before mid)) none (copied mid) refl)))) c.insert.ensures.ok
+    (rw (← c.self.view_is) (copy_done s c.args.q c.args.p w c.in_ok-bytes.bytes.items (c.self.invariant.cut (before.agreed mid)) none (copied mid) refl)))) c.insert.ensures.ok
 
 pub returns-clause-same : goal.returns-clause-same
 returns-clause-same c = read_as_through _ _ _ c.trace_bytes.ensures.seen.state (read_as_either _ c.insert.result _ _ _ c.insert.ensures.ok c.insert.ensures.err)

@@ -1,9 +1,11 @@
-use Rattle.std.proofs.Common.{◌≡◌, ◌∙◌, sym, ap, subst}
+use Rattle.std.proofs.Common.{◌≡◌, ◌∙◌, ℕ, List, sym, ap, subst}
 use Rattle.frame_cut.specs.Cuts.{IsCut}
 use Rattle.frame_cut.specs.Volume.{Volume, bytes_of}
 use Rattle.frame_cut.specs.declared.file_head.Head.{Head}
 use Rattle.frame_cut.specs.declared.limits.Limits.{Limits}
+use Rattle.frame_cut.specs.declared.load_fault.LoadFault.{LoadFault}
 use Rattle.frame_cut.specs.declared.reading.Reading.{Reading}
+use Rattle.volume_loading.specs.PassedFile.{IsPassFault}
 use Rattle.live_volume.proofs.MeasuredLemmas.{frame_of_cut, measured_of_cut}
 use Rattle.live_volume.proofs.live_volume.LiveVolume.load_on_disk.Goals as goal
 
@@ -27,3 +29,17 @@ invariant_of-result c =
       measured = measured_of_cut c.args.reading c.args.limits o.volume c.in-Ok.fields.pairs _ cut own;
       reports = c.in-Ok-with_records_on_disk.ensures.reports;
     }
+
+-- the file is refused as the load was asked
+refused_so : (size asked : ℕ) (how reading : Reading) (within limits : Limits) (read : List ℕ) (failures : ℕ) (fault : LoadFault) → size ≡ asked → how ≡ reading → within ≡ limits
+    → IsPassFault size how within read failures fault → IsPassFault asked reading limits read failures fault
+refused_so size asked how reading within limits read failures fault e f g told =
+    subst (λ (n : ℕ). IsPassFault n reading limits read failures fault) e
+    (subst (λ (r : Reading). IsPassFault size r limits read failures fault) f (subst (λ (l : Limits). IsPassFault size how l read failures fault) g told))
+
+pub returns-in-Err-with_records_on_disk-clause-refused : goal.returns-in-Err-with_records_on_disk-clause-refused
+returns-in-Err-with_records_on_disk-clause-refused c =
+    let p = c.in_ok-passing.passing in
+    let begun = c.in_ok-passing.ensures.begun in
+    let e = c.in-Err-with_records_on_disk.refused in
+    refused_so p.size c.args.size p.reading c.args.reading p.limits c.args.limits e.read e.failures e.fault begun.size begun.reading begun.limits c.in-Err-with_records_on_disk.ensures.refused

@@ -23,7 +23,7 @@ invariant_of-self c =
     let o = c.remake_under.new.overlay in
     let is : o.volume ≡ v = c.remake_under.ensures.volume in
     record {
-      cut = λ sure. subst (λ (u : Volume). IsCut (bytes_of u) b.reading b.limits u) (sym is) (c.self.invariant.cut (c.remake_under.ensures.agreed sure));
+      cut = λ sure. subst (λ (u : Volume). IsCut (bytes_of u) b.reading b.limits u) (sym is) (c.self.invariant.cut (c.remake_under.ensures.reads.agreed sure));
       frame = subst (HasFrame b.limits) (sym is) c.self.invariant.frame;
       prepared = c.remake_under.ensures.prepared ∙ sym is;
       extensions = c.remake_under.ensures.extensions ∙ c.self.invariant.extensions ∙ ap (λ (u : Volume). u.head.extensions) (sym is);
@@ -43,7 +43,7 @@ returns-in-Ok-clause-step c =
     rw (← c.self.view_is) (λ sure.
     rw (mapping_first (state_of b) c.args.mapping has)
     (record {
-      volume = subst (λ (u : Volume). IsCut (bytes_of v) b.reading b.limits u) (sym is) (c.self.invariant.cut (c.remake_under.ensures.agreed sure));
+      volume = subst (λ (u : Volume). IsCut (bytes_of v) b.reading b.limits u) (sym is) (c.self.invariant.cut (c.remake_under.ensures.reads.agreed sure));
       fields = c.in-Ok.ensures.bound ∙ ap (λ (bs : Pairs). all_bound b.fields.pairs bs) c.bindings-names.ensures;
       reading = refl;
       limits = refl;

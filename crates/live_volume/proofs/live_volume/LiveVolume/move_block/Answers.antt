@@ -17,4 +17,4 @@ returns-clause-step c =
     λ sure.
     rw none
     (subst (λ (s : State). IsAfter old (MoveBlock c.args.a c.args.b c.args.to) s) (sym c.exchange_pairs.ensures.state)
-    (block_moved old c.args.a c.args.b c.args.to c.in_ok-pairs.pairs.items (c.stands.ensures.cut (c.exchange_pairs.ensures.agreed sure)) none c.in_ok-pairs.ensures.puts))
+    (block_moved old c.args.a c.args.b c.args.to c.in_ok-pairs.pairs.items (c.stands.ensures.cut (c.exchange_pairs.ensures.reads.agreed sure)) none c.in_ok-pairs.ensures.puts))

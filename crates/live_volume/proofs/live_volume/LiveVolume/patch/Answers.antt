@@ -25,7 +25,7 @@ returns-clause-step c =
     let s = state_of c.self.inside in
     let look = looked_at c.self.inside c.patch_place.new.overlay _ c.patch_place.ensures.seen in
     rw (← c.self.view_is) (λ sure.
-    let mid = c.put_values.ensures.agreed sure in
+    let mid = c.put_values.ensures.reads.agreed sure in
     stepped s _ c.put_values.new.self.state (Patch c.args.p c.args.k c.args.values.now) c.put_values.result (c.in_ok-at.ensures.ok s refl mid) look.state (record {}) (rw c.in_ok-at.ensures.there (omega arith))
     (on_ok c.put_values.result (λ f. f sure) c.put_values.ensures.ok) c.put_values.ensures.err)
 

@@ -1,4 +1,4 @@
-use Rattle.std.proofs.Common.{◌≡◌, ◌∙◌, ◌+◌, ◌≤◌, ℕ, List, IsTrue, ap, sym, subst, length, true, rules}
+use Rattle.std.proofs.Common.{◌≡◌, ◌∙◌, ◌+◌, ◌≤◌, ℕ, List, ap, sym, subst, length, true, rules}
 use Rattle.std.specs.Prelude.{IfSome}
 use Rattle.field_map.specs.Pairs.{Pairs}
 use Rattle.frame_cut.specs.Splice.{splice}
@@ -10,6 +10,7 @@ use Rattle.trace_record.specs.OfTrace.{record_of}
 use Rattle.trace_record.specs.declared.record.Record.{Record}
 use Rattle.trace_record.specs.declared.packed_record.PackedRecord.{PackedRecord}
 use Rattle.edit_overlay.specs.CountedVolume.{CountedVolume}
+use Rattle.edit_overlay.specs.Reads.{Reads, Follow, HaveAgreed}
 use Rattle.frame_cut.proofs.EditLemmas.{length-splice}
 use Rattle.volume_records.specs.Laid.{HasSamplesOf}
 use Rattle.live_volume.proofs.HeldLemmas.{trace_again, is_trace_with}
@@ -31,18 +32,18 @@ record_after-requires-clause-samples c =
     let t : List ℕ = splice (trace_at v c.args.p) c.args.at (length c.args.bytes.now) c.args.bytes.now in
     let last : c.args.p ≤ count_of v = rw (← c.self.view_is) at c.requires.last in
     let prep : c.prepare_put.new.self.prepared ≡ with_trace v c.args.p t = ap (λ (o : CountedVolume PackedRecord). o.prepared) c.in_ok-prepare_put.ensures.ok in
-    let known : IsTrue c.self.inside.overlay.agreed → IfSome c.args.known (HasSamplesOf v.head fields t) = rw (← c.self.view_is) at c.requires.samples in
-    let same : c.prepare_put.new.self.agreed ≡ c.self.inside.overlay.agreed = ap (λ (o : CountedVolume PackedRecord). o.agreed) c.in_ok-prepare_put.ensures.ok in
+    let known : HaveAgreed c.self.inside.overlay.reads → IfSome c.args.known (HasSamplesOf v.head fields t) = rw (← c.self.view_is) at c.requires.samples in
+    let same : c.prepare_put.new.self.reads ≡ c.self.inside.overlay.reads = ap (λ (o : CountedVolume PackedRecord). o.reads) c.in_ok-prepare_put.ensures.ok in
     λ sure. subst (λ (u : Volume). IfSome c.args.known (HasSamplesOf u.head fields (trace_at u c.args.p))) (sym prep)
-    (subst (λ (u : List ℕ). IfSome c.args.known (HasSamplesOf v.head fields u)) (sym (trace_again v c.args.p t c.requires.first last)) (known (subst IsTrue same sure)))
+    (subst (λ (u : List ℕ). IfSome c.args.known (HasSamplesOf v.head fields u)) (sym (trace_again v c.args.p t c.requires.first last)) (known (subst HaveAgreed same sure)))
 
 pub record_after-requires-clause-laid : goal.record_after-requires-clause-laid
 record_after-requires-clause-laid c =
     let last : c.args.p ≤ count_of c.self.inside.overlay.volume = rw (← c.self.view_is) at c.requires.last in
     let inside : c.args.at + length c.args.bytes.now ≤ length (trace_at c.self.inside.overlay.volume c.args.p) = rw (← c.self.view_is) at c.requires.inside in
-    let held : IsTrue c.self.inside.overlay.agreed → IfSome c.args.known (λ r. facts_of r ≡ record_of c.self.inside.overlay.volume.head c.self.inside.fields.pairs (trace_at c.self.inside.overlay.volume c.args.p)) = rw (← c.self.view_is) at c.requires.known in
-    let same : c.prepare_put.new.self.agreed ≡ c.self.inside.overlay.agreed = ap (λ (o : CountedVolume PackedRecord). o.agreed) c.in_ok-prepare_put.ensures.ok in
-    λ sure. edit.put_laid c.self.inside c.args.p c.args.at c.args.bytes.now c.prepare_put.new.self c.args.known c.requires.first last inside c.in_ok-prepare_put.ensures.ok (held (subst IsTrue same sure))
+    let held : HaveAgreed c.self.inside.overlay.reads → IfSome c.args.known (λ r. facts_of r ≡ record_of c.self.inside.overlay.volume.head c.self.inside.fields.pairs (trace_at c.self.inside.overlay.volume c.args.p)) = rw (← c.self.view_is) at c.requires.known in
+    let same : c.prepare_put.new.self.reads ≡ c.self.inside.overlay.reads = ap (λ (o : CountedVolume PackedRecord). o.reads) c.in_ok-prepare_put.ensures.ok in
+    λ sure. edit.put_laid c.self.inside c.args.p c.args.at c.args.bytes.now c.prepare_put.new.self c.args.known c.requires.first last inside c.in_ok-prepare_put.ensures.ok (held (subst HaveAgreed same sure))
 
 pub record_after-requires-clause-few : goal.record_after-requires-clause-few
 record_after-requires-clause-few c =
@@ -94,11 +95,11 @@ invariant_of-self-in-Ok c =
     let w : Volume = with_trace v c.args.p (splice (trace_at v c.args.p) c.args.at (length c.args.bytes.now) c.args.bytes.now) in
     let last : c.args.p ≤ count_of v = rw (← c.self.view_is) at c.requires.last in
     let inside : c.args.at + length c.args.bytes.now ≤ length (trace_at v c.args.p) = rw (← c.self.view_is) at c.requires.inside in
-    let cut : IsTrue c.self.inside.overlay.agreed → IsCut (bytes_of w) c.self.inside.reading c.self.inside.limits w = rw (← c.self.view_is) at c.requires.cut in
-    let same : c.prepare_put.new.self.agreed ≡ c.self.inside.overlay.agreed = ap (λ (o : CountedVolume PackedRecord). o.agreed) c.in_ok-prepare_put.ensures.ok in
+    let cut : HaveAgreed c.self.inside.overlay.reads → IsCut (bytes_of w) c.self.inside.reading c.self.inside.limits w = rw (← c.self.view_is) at c.requires.cut in
+    let same : c.prepare_put.new.self.reads ≡ c.self.inside.overlay.reads = ap (λ (o : CountedVolume PackedRecord). o.reads) c.in_ok-prepare_put.ensures.ok in
     let prep : c.record_after.new.overlay.prepared ≡ c.prepare_put.new.self.prepared = c.record_after.ensures.seen.prepared in
-    let facts = subst (λ (u : Volume). IsTrue c.record_after.new.overlay.agreed → facts_of c.in-Ok.record ≡ record_of u.head c.self.inside.fields.pairs (trace_at u c.args.p)) (sym prep) c.in-Ok.ensures.record in
+    let facts = subst (λ (u : Volume). HaveAgreed c.record_after.new.overlay.reads → facts_of c.in-Ok.record ≡ record_of u.head c.self.inside.fields.pairs (trace_at u c.args.p)) (sym prep) c.in-Ok.ensures.record in
     let small : c.in-Ok.record.number ≤ length (trace_at c.record_after.new.overlay.prepared c.args.p) = subst (λ (u : Volume). c.in-Ok.record.number ≤ length (trace_at u c.args.p)) (sym prep) c.in-Ok.ensures.few in
     edit.put_done c.self.inside c.self.invariant c.args.p c.args.at c.args.bytes.now c.prepare_put.new.self c.record_after.new.overlay c.requires.first last inside c.in_ok-prepare_put.ensures.ok c.record_after.ensures.seen c.commit_with_record.new.overlay c.commit_with_record.new.reports c.in-Ok.record
-    c.in-Ok-commit_with_record.ensures.volume c.commit_with_record.ensures.prepared c.in-Ok-commit_with_record.ensures.records c.commit_with_record.ensures.agreed (λ sure. subst IsTrue same (c.record_after.ensures.seen.agreed sure)) cut facts small
+    c.in-Ok-commit_with_record.ensures.volume c.commit_with_record.ensures.prepared c.in-Ok-commit_with_record.ensures.records c.commit_with_record.ensures.reads (subst (λ (r : Reads). Follow r c.record_after.new.overlay.reads) same c.record_after.ensures.seen.reads) cut facts small
     c.in-Ok-commit_with_record.ensures.reports

@@ -11,6 +11,7 @@ use Rattle.trace_record.specs.OfTrace.{record_of}
 use Rattle.trace_record.specs.declared.record.Record.{Record}
 use Rattle.trace_record.specs.Packed.{record_in}
 use Rattle.edit_overlay.specs.CountedVolume.{CountedVolume}
+use Rattle.edit_overlay.specs.Reads.{Reads, Follow, HaveAgreed}
 use Rattle.trace_record.specs.declared.packed_record.PackedRecord.{PackedRecord}
 use Rattle.live_reports.specs.Exchanged.{same_cells}
 use Rattle.volume_records.specs.OfVolume.{AreHeaderParts, headers_of}
@@ -31,7 +32,7 @@ prepare_put_each-requires-clause-last c =
 
 pub prepare_put_each-requires-clause-whole : goal.prepare_put_each-requires-clause-whole
 prepare_put_each-requires-clause-whole c = λ k less sure.
-    let parts : IsTrue c.self.inside.overlay.agreed → AreHeaderParts c.self.inside.overlay.volume c.args.a c.args.at c.args.size c.args.bytes.now = rw (← c.self.view_is) at c.requires.parts in
+    let parts : HaveAgreed c.self.inside.overlay.reads → AreHeaderParts c.self.inside.overlay.volume c.args.a c.args.at c.args.size c.args.bytes.now = rw (← c.self.view_is) at c.requires.parts in
     (parts sure).whole k less
 
 pub prepared_records-requires-clause-last : goal.prepared_records-requires-clause-last
@@ -54,7 +55,7 @@ prepared_records-requires-clause-laid c =
     let inside : (k : ℕ) → k < length c.args.bytes.now / c.args.size → c.args.at + c.args.size ≤ length (get_or b.overlay.volume.traces (c.args.a - 1 + k) []) = rw (← c.self.view_is) at c.requires.inside in
     let ok = c.in_ok-prepare_put_each.ensures.ok in
     λ sure. edit.each_laid b c.args.a c.args.count c.args.at c.args.size c.args.bytes.now c.prepare_put_each.new.self c.requires.count inside ok
-    (c.self.invariant.records (subst IsTrue (ap (λ (o : CountedVolume PackedRecord). o.agreed) ok) sure))
+    (c.self.invariant.records (subst HaveAgreed (ap (λ (o : CountedVolume PackedRecord). o.reads) ok) sure))
 
 pub same_cells-stays-requires : goal.same_cells-stays-requires
 same_cells-stays-requires c =
@@ -120,18 +121,18 @@ invariant_of-self-in-Ok-commit_with_records c =
     let ok = c.in_ok-prepare_put_each.ensures.ok in
     let seen = c.prepared_records.ensures.seen in
     let same : c.prepare_put_each.new.self.payloads ≡ b.overlay.payloads = ap (λ (o : CountedVolume PackedRecord). o.payloads) ok in
-    let parts : IsTrue b.overlay.agreed → AreHeaderParts b.overlay.volume c.args.a c.args.at c.args.size c.args.bytes.now = rw (← c.self.view_is) at c.requires.parts in
-    let before : IsTrue c.prepared_records.new.overlay.agreed → IsTrue b.overlay.agreed = λ sure. subst IsTrue (ap (λ (o : CountedVolume PackedRecord). o.agreed) ok) (seen.agreed sure) in
-    let found : IsTrue c.prepared_records.new.overlay.agreed → AreTheirRecords b.overlay.volume b.fields.pairs c.args.a c.args.at c.args.size c.args.bytes.now (records_in b) c.in-Ok.records =
-    λ sure. their_records b.overlay.volume _ b.fields.pairs c.args.a c.args.count c.args.at c.args.size c.args.bytes.now (records_in b) c.in-Ok.records (parts (before sure)) (c.self.invariant.records (before sure))
+    let parts : HaveAgreed b.overlay.reads → AreHeaderParts b.overlay.volume c.args.a c.args.at c.args.size c.args.bytes.now = rw (← c.self.view_is) at c.requires.parts in
+    let before : Follow b.overlay.reads c.prepared_records.new.overlay.reads = subst (λ (r : Reads). Follow r c.prepared_records.new.overlay.reads) (ap (λ (o : CountedVolume PackedRecord). o.reads) ok) seen.reads in
+    let found : HaveAgreed c.prepared_records.new.overlay.reads → AreTheirRecords b.overlay.volume b.fields.pairs c.args.a c.args.at c.args.size c.args.bytes.now (records_in b) c.in-Ok.records =
+    λ sure. their_records b.overlay.volume _ b.fields.pairs c.args.a c.args.count c.args.at c.args.size c.args.bytes.now (records_in b) c.in-Ok.records (parts (before.agreed sure)) (c.self.invariant.records (before.agreed sure))
     (ap (λ (o : CountedVolume PackedRecord). o.prepared) ok) c.requires.count
     (subst (λ (qs : List PackedRecord). map facts_of c.in-Ok.records ≡ take c.args.count (drop (c.args.a - 1) (headers_of c.prepare_put_each.new.self.prepared b.fields.pairs (map facts_of (map record_in qs))))) same (c.in-Ok.ensures.records sure)) in
-    let cut : IsTrue b.overlay.agreed → IsCut (bytes_of (with_each b.overlay.volume c.args.a c.args.at c.args.size c.args.bytes.now)) b.reading b.limits (with_each b.overlay.volume c.args.a c.args.at c.args.size c.args.bytes.now) =
+    let cut : HaveAgreed b.overlay.reads → IsCut (bytes_of (with_each b.overlay.volume c.args.a c.args.at c.args.size c.args.bytes.now)) b.reading b.limits (with_each b.overlay.volume c.args.a c.args.at c.args.size c.args.bytes.now) =
     rw (← c.self.view_is) at c.requires.cut in
     edit.each_done b c.self.invariant c.args.a c.args.count c.args.at c.args.size c.args.bytes.now c.prepare_put_each.new.self c.prepared_records.new.overlay c.in-Ok.records c.requires.first c.requires.some c.requires.exact c.requires.count
     last inside c.in_ok-prepare_put_each.ensures.ok c.prepared_records.ensures.seen c.in-Ok.ensures.many c.in-Ok.ensures.numbers
-    c.commit_with_records.new.overlay c.commit_with_records.new.reports c.in-Ok-commit_with_records.ensures.volume c.commit_with_records.ensures.prepared c.in-Ok-commit_with_records.ensures.records c.commit_with_records.ensures.agreed
-    (λ sure. cut (before sure)) (λ sure. (found sure).records) c.in-Ok-commit_with_records.ensures.reports
+    c.commit_with_records.new.overlay c.commit_with_records.new.reports c.in-Ok-commit_with_records.ensures.volume c.commit_with_records.ensures.prepared c.in-Ok-commit_with_records.ensures.records c.commit_with_records.ensures.reads
+    (λ sure. cut (before.agreed sure)) (λ sure. (found sure).records) c.in-Ok-commit_with_records.ensures.reports
 
 pub returns-in-Ok-commit_with_records-clause-moved : goal.returns-in-Ok-commit_with_records-clause-moved
 returns-in-Ok-commit_with_records-clause-moved c =
@@ -141,10 +142,10 @@ returns-in-Ok-commit_with_records-clause-moved c =
     let ok = c.in_ok-prepare_put_each.ensures.ok in
     let seen = c.prepared_records.ensures.seen in
     let same : c.prepare_put_each.new.self.payloads ≡ b.overlay.payloads = ap (λ (o : CountedVolume PackedRecord). o.payloads) ok in
-    let parts : IsTrue b.overlay.agreed → AreHeaderParts b.overlay.volume c.args.a c.args.at c.args.size c.args.bytes.now = rw (← c.self.view_is) at c.requires.parts in
-    let before : IsTrue c.prepared_records.new.overlay.agreed → IsTrue b.overlay.agreed = λ sure. subst IsTrue (ap (λ (o : CountedVolume PackedRecord). o.agreed) ok) (seen.agreed sure) in
-    let found : IsTrue c.prepared_records.new.overlay.agreed → AreTheirRecords b.overlay.volume b.fields.pairs c.args.a c.args.at c.args.size c.args.bytes.now (records_in b) c.in-Ok.records =
-    λ sure. their_records b.overlay.volume _ b.fields.pairs c.args.a c.args.count c.args.at c.args.size c.args.bytes.now (records_in b) c.in-Ok.records (parts (before sure)) (c.self.invariant.records (before sure))
+    let parts : HaveAgreed b.overlay.reads → AreHeaderParts b.overlay.volume c.args.a c.args.at c.args.size c.args.bytes.now = rw (← c.self.view_is) at c.requires.parts in
+    let before : Follow b.overlay.reads c.prepared_records.new.overlay.reads = subst (λ (r : Reads). Follow r c.prepared_records.new.overlay.reads) (ap (λ (o : CountedVolume PackedRecord). o.reads) ok) seen.reads in
+    let found : HaveAgreed c.prepared_records.new.overlay.reads → AreTheirRecords b.overlay.volume b.fields.pairs c.args.a c.args.at c.args.size c.args.bytes.now (records_in b) c.in-Ok.records =
+    λ sure. their_records b.overlay.volume _ b.fields.pairs c.args.a c.args.count c.args.at c.args.size c.args.bytes.now (records_in b) c.in-Ok.records (parts (before.agreed sure)) (c.self.invariant.records (before.agreed sure))
     (ap (λ (o : CountedVolume PackedRecord). o.prepared) ok) c.requires.count
     (subst (λ (qs : List PackedRecord). map facts_of c.in-Ok.records ≡ take c.args.count (drop (c.args.a - 1) (headers_of c.prepare_put_each.new.self.prepared b.fields.pairs (map facts_of (map record_in qs))))) same (c.in-Ok.ensures.records sure)) in
     let s : State = state_of c.self.inside in
@@ -160,12 +161,12 @@ returns-in-Ok-commit_with_records-clause-moved c =
     last inside c.in_ok-prepare_put_each.ensures.ok c.prepared_records.ensures.seen c.in-Ok.ensures.many c.in-Ok.ensures.numbers in
     let list : c.new.result ≡ records_in b = c.new.ensures ∙ ap (λ (qs : List PackedRecord). map record_in qs) (c.payloads.ensures ∙ payloads) in
     let within : at + c.args.count ≤ length w.traces = omega (arith, last, length-put_each v.traces at c.args.at c.args.size c.args.bytes.now) in
-    let stays : IsTrue c.commit_with_records.new.overlay.agreed → IsTrue c.prepared_records.new.overlay.agreed = subst IsTrue c.commit_with_records.ensures.agreed in
+    let stays : HaveAgreed c.commit_with_records.new.overlay.reads → HaveAgreed c.prepared_records.new.overlay.reads = subst HaveAgreed c.commit_with_records.ensures.reads in
     rw (← c.self.view_is) (λ sure.
-    let held = c.self.invariant.records (before (stays sure)) in
+    let held = c.self.invariant.records (before.agreed (stays sure)) in
     let old_facts : map facts_of (drop at rs) ≡ map f (drop at v.traces) = sym (drop-map facts_of at rs) ∙ ap (λ (fs : List Facts). drop at fs) held ∙ drop-map f at v.traces in
     let new_facts : map facts_of new ≡ map f (take c.args.count (drop at w.traces)) =
-    made_so v fields c.args.a c.args.at c.args.size c.args.bytes.now rs new (parts (before (stays sure))) held (found (stays sure)).made
+    made_so v fields c.args.a c.args.at c.args.size c.args.bytes.now rs new (parts (before.agreed (stays sure))) held (found (stays sure)).made
     ∙ ap (λ (n : ℕ). take n (drop at (map f w.traces))) c.requires.count
     ∙ ap (λ (fs : List Facts). take c.args.count fs) (drop-map f at w.traces) ∙ take-map f c.args.count (drop at w.traces) in
     ap not (c.same_cells-stays.ensures ∙ ap (λ (l : List Record). same_cells (drop at l) c.in-Ok.records) list)

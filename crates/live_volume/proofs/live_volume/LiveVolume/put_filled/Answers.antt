@@ -1,8 +1,9 @@
-use Rattle.std.proofs.Common.{◌≡◌, ◌∙◌, ℕ, ◌+◌, ◌-◌, ◌*◌, ◌<◌, ◌≤◌, ◌^◌, List, length, IsTrue, ap, sym, subst, arith, rules}
+use Rattle.std.proofs.Common.{◌≡◌, ◌∙◌, ℕ, ◌+◌, ◌-◌, ◌*◌, ◌<◌, ◌≤◌, ◌^◌, List, length, ap, sym, subst, arith, rules}
 use Rattle.std.proofs.lemmas.Int.{to_z-of_z}
 use Rattle.std.specs.Int.{w128}
 use mir.Val.{SFits}
 use Rattle.std.specs.Prelude.{IfSome}
+use Rattle.edit_overlay.specs.Reads.{HaveAgreed}
 use Rattle.sample_codes.specs.Formats.{samples_bytes, values, width}
 use Rattle.frame_cut.specs.Traces.{count_of, trace_at}
 use Rattle.trace_store.specs.Swapped.{ArePlaces}
@@ -51,7 +52,7 @@ front : (c : goal.After-as_slice) → c.exchange_pairs.new.self.state ≡ with_f
 front c = front_is c.args.self.now.state c.exchange_pairs.new.self.state c.args.traces.now c.in_ok-forth.forth.items c.exchange_pairs.ensures.state c.in_ok-forth.ensures.pairs
 
 -- the value's bytes, where each read agreed
-written : (c : goal.After-as_slice) → IsTrue c.args.self.now.agreed
+written : (c : goal.After-as_slice) → HaveAgreed c.args.self.now.reads
     → IfSome (values c.args.self.now.state.volume.head.format) (λ f. c.as_slice.result.now ≡ samples_bytes c.args.self.now.state.volume.head.order f (range_values c.args.first c.args.last c.args.value))
 written c was =
     let fit : SFits w128 c.args.value = search rules in
@@ -68,13 +69,13 @@ put_over-done-requires-clause-inside c =
 
 pub put_over-done-requires-clause-whole : goal.put_over-done-requires-clause-whole
 put_over-done-requires-clause-whole c = rw (front c) (λ k less sure.
-    let was : IsTrue c.args.self.now.agreed = c.exchange_pairs.ensures.agreed sure in
+    let was : HaveAgreed c.args.self.now.reads = c.exchange_pairs.ensures.reads.agreed sure in
     fill.over_whole c.args.self.now.state c.args.first c.args.last c.args.value c.args.traces.now c.args.places.now c.as_slice.result.now c.requires.rising c.requires.some c.requires.count (long c) c.requires.room
     (c.stands.ensures.cut was) c.requires.fits (c.requires.none was) (c.requires.places was) (written c was) k less)
 
 pub put_over-done-requires-clause-cut : goal.put_over-done-requires-clause-cut
 put_over-done-requires-clause-cut c = rw (front c) (λ sure.
-    let was : IsTrue c.args.self.now.agreed = c.exchange_pairs.ensures.agreed sure in
+    let was : HaveAgreed c.args.self.now.reads = c.exchange_pairs.ensures.reads.agreed sure in
     fill.over_cut c.args.self.now.state c.args.first c.args.last c.args.value c.args.traces.now c.args.places.now c.as_slice.result.now c.requires.rising c.requires.some c.requires.count (long c) c.requires.room
     (c.stands.ensures.cut was) c.requires.fits (c.requires.none was) (c.requires.places was) (written c was))
 
@@ -97,7 +98,7 @@ returns-in-Ok-clause-ok c = λ sure.
     let ps : List ℕ = c.args.traces.now in
     let first = front_is s c.exchange_pairs.new.self.state ps c.in_ok-forth.forth.items c.exchange_pairs.ensures.state c.in_ok-forth.ensures.pairs in
     let back = back_is c.put_over-done.new.self.state c.exchange_pairs-2.new.self.state ps c.in_ok-back.back.items c.exchange_pairs-2.ensures.state c.in_ok-back.ensures.pairs in
-    let was : IsTrue c.args.self.now.agreed = c.exchange_pairs.ensures.agreed (c.put_over-done.ensures.agreed (c.exchange_pairs-2.ensures.agreed sure)) in
+    let was : HaveAgreed c.args.self.now.reads = c.exchange_pairs.ensures.reads.agreed (c.put_over-done.ensures.reads.agreed (c.exchange_pairs-2.ensures.reads.agreed sure)) in
     let none = listed_none (λ p. samples_refusal s.volume.head c.args.first c.args.last (trace_at s.volume p)) ps (c.requires.none was) 0 c.requires.some in
     fill.filled_state s c.args.first c.args.last c.args.value ps c.args.places.now c.as_slice.result.now c.requires.rising c.requires.some c.requires.count (rw c.as_slice.ensures.value c.in_ok-bytes.ensures.long) c.requires.room
     (c.stands.ensures.cut was) c.requires.fits (c.requires.none was) (c.requires.places was) (rw c.as_slice.ensures.value (rw (to_z-of_z w128 c.args.value fit) at (c.in_ok-bytes.ensures.bytes was none)))

@@ -1,4 +1,4 @@
-use Rattle.std.proofs.Common.{◌≡◌, ◌∙◌, refl, ap, sym, rules, IsTrue, map, subst}
+use Rattle.std.proofs.Common.{◌≡◌, ◌∙◌, refl, ap, sym, rules, map, subst}
 use Rattle.std.proofs.lemmas.Int.{to_z-of_z}
 use Rattle.std.specs.Int.{w128}
 use mir.Val.{SFits}
@@ -9,6 +9,7 @@ use Rattle.frame_cut.specs.Volume.{Volume}
 use Rattle.bench_rules.specs.declared.field.Field.TheVariants as field
 use Rattle.bench_rules.specs.declared.edit.Edit.TheVariants.{SetBin}
 use Rattle.edit_overlay.specs.CountedVolume.{CountedVolume}
+use Rattle.edit_overlay.specs.Reads.{HaveAgreed}
 use Rattle.trace_record.specs.declared.packed_record.PackedRecord.{PackedRecord}
 use Rattle.trace_record.specs.Packed.{record_in}
 use Rattle.live_volume.specs.Held.{state_of, records_in}
@@ -40,13 +41,13 @@ invariant_of-self c =
     let w : Volume = with_header_bytes v c.from-2.result c.write.new.bytes in
     let e : CountedVolume PackedRecord = c.put_head.new.self in
     let is : e.volume ≡ w = ap (λ (o : CountedVolume PackedRecord). o.volume) c.put_head.ensures in
-    let stays : e.agreed ≡ b.overlay.agreed = ap (λ (o : CountedVolume PackedRecord). o.agreed) c.put_head.ensures in
+    let stays : e.reads ≡ b.overlay.reads = ap (λ (o : CountedVolume PackedRecord). o.reads) c.put_head.ensures in
     held_edited b e b.reports w (records_in b) c.self.invariant is (ap (λ (o : CountedVolume PackedRecord). o.prepared) c.put_head.ensures ∙ sym is)
     (ap (λ (o : CountedVolume PackedRecord). map record_in o.payloads) c.put_head.ensures) refl
     (frame_header b.limits v c.from-2.result c.write.new.bytes c.self.invariant.frame (bin_room (state_of b) c.args.place c.args.value c.from-2.result c.write.new.bytes c.requires at new)) c.self.invariant.measured
     (λ sure. after_cut (state_of b) (SetBin (field.Place c.args.place) c.args.value) w
-    (bin_done (state_of b) c.args.place c.args.value w c.from-2.result c.write.new.bytes (c.self.invariant.cut (subst IsTrue stays sure)) c.requires at new refl))
-    (λ sure. c.self.invariant.records (subst IsTrue stays sure)) c.self.invariant.reports
+    (bin_done (state_of b) c.args.place c.args.value w c.from-2.result c.write.new.bytes (c.self.invariant.cut (subst HaveAgreed stays sure)) c.requires at new refl))
+    (λ sure. c.self.invariant.records (subst HaveAgreed stays sure)) c.self.invariant.reports
 
 pub returns-clause-after : goal.returns-clause-after
 returns-clause-after c =
@@ -54,10 +55,10 @@ returns-clause-after c =
     let b = c.self.inside in
     let new : c.write.new.bytes ≡ bytes b.overlay.volume.head.order c.args.place.kind c.args.value = rw (c.head.ensures, to_z-of_z) at c.write.ensures in
     let w : Volume = with_header_bytes b.overlay.volume c.from-2.result c.write.new.bytes in
-    let stays : c.put_head.new.self.agreed ≡ b.overlay.agreed = ap (λ (o : CountedVolume PackedRecord). o.agreed) c.put_head.ensures in
+    let stays : c.put_head.new.self.reads ≡ b.overlay.reads = ap (λ (o : CountedVolume PackedRecord). o.reads) c.put_head.ensures in
     let state = state_with b c.put_head.new.self w (ap (λ (o : CountedVolume PackedRecord). o.volume) c.put_head.ensures) (ap (λ (o : CountedVolume PackedRecord). o.loaded) c.put_head.ensures) in
     rw (← c.self.view_is) (λ sure. rw state
-    (bin_done (state_of b) c.args.place c.args.value w c.from-2.result c.write.new.bytes (c.self.invariant.cut (subst IsTrue stays sure)) c.requires (c.from-2.ensures ∙ c.binary_offset.ensures) new refl))
+    (bin_done (state_of b) c.args.place c.args.value w c.from-2.result c.write.new.bytes (c.self.invariant.cut (subst HaveAgreed stays sure)) c.requires (c.from-2.ensures ∙ c.binary_offset.ensures) new refl))
 
 pub returns-clause-same : goal.returns-clause-same
 returns-clause-same c =

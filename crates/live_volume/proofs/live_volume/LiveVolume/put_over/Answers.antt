@@ -1,9 +1,10 @@
-use Rattle.std.proofs.Common.{◌≡◌, ℕ, ◌+◌, ◌-◌, ◌<◌, ◌≤◌, IsTrue, [], ap, refl, length, get_or, rules, arith}
+use Rattle.std.proofs.Common.{◌≡◌, ℕ, ◌+◌, ◌-◌, ◌<◌, ◌≤◌, [], ap, refl, length, get_or, rules, arith}
 use Rattle.frame_cut.specs.Cuts.{IsCut}
 use Rattle.frame_cut.specs.Traces.{count_of}
 use Rattle.frame_cut.specs.Volume.{Volume, bytes_of}
 use Rattle.trace_record.specs.declared.packed_record.PackedRecord.{PackedRecord}
 use Rattle.edit_overlay.specs.CountedVolume.{CountedVolume, with_over}
+use Rattle.edit_overlay.specs.Reads.{HaveAgreed}
 use Rattle.live_volume.proofs.OverLemmas as over
 use Rattle.live_volume.proofs.live_volume.LiveVolume.put_over.Goals as goal
 
@@ -73,9 +74,9 @@ invariant_of-self-in-Ok-commit_with_records c =
     let b = c.self.inside in
     let last : c.args.a - 1 + length c.args.places.now ≤ count_of b.overlay.volume = rw (← c.self.view_is) at c.requires.last in
     let inside : (k : ℕ) → k < length c.args.places.now → get_or c.args.places.now k 0 + length c.args.bytes.now ≤ length (get_or b.overlay.volume.traces (c.args.a - 1 + k) []) = rw (← c.self.view_is) at c.requires.inside in
-    let cut : IsTrue b.overlay.agreed → IsCut (bytes_of (with_over b.overlay.volume c.args.a c.args.places.now c.args.bytes.now)) b.reading b.limits (with_over b.overlay.volume c.args.a c.args.places.now c.args.bytes.now) =
+    let cut : HaveAgreed b.overlay.reads → IsCut (bytes_of (with_over b.overlay.volume c.args.a c.args.places.now c.args.bytes.now)) b.reading b.limits (with_over b.overlay.volume c.args.a c.args.places.now c.args.bytes.now) =
     rw (← c.self.view_is) at c.requires.cut in
     over.over_done b c.self.invariant c.args.a (length c.args.places.now) c.args.places.now c.args.bytes.now c.prepare_put_over.new.self c.prepared_whole_records.new.overlay c.in-Ok.records c.requires.first refl
     last inside c.in_ok-prepare_put_over.ensures.ok c.prepared_whole_records.ensures.seen c.in-Ok.ensures.many c.in-Ok.ensures.few
-    c.commit_with_records.new.overlay c.commit_with_records.new.reports c.in-Ok-commit_with_records.ensures.volume c.commit_with_records.ensures.prepared c.in-Ok-commit_with_records.ensures.records c.commit_with_records.ensures.agreed
+    c.commit_with_records.new.overlay c.commit_with_records.new.reports c.in-Ok-commit_with_records.ensures.volume c.commit_with_records.ensures.prepared c.in-Ok-commit_with_records.ensures.records c.commit_with_records.ensures.reads
     cut c.in-Ok.ensures.records c.in-Ok-commit_with_records.ensures.reports

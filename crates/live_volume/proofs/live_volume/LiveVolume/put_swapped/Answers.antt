@@ -1,4 +1,5 @@
-use Rattle.std.proofs.Common.{◌≡◌, ◌∙◌, ℕ, ◌+◌, ◌<◌, ◌≤◌, ◌^◌, List, length, IsTrue, refl, ap, sym, subst, arith, rules}
+use Rattle.std.proofs.Common.{◌≡◌, ◌∙◌, ℕ, ◌+◌, ◌<◌, ◌≤◌, ◌^◌, List, length, refl, ap, sym, subst, arith, rules}
+use Rattle.edit_overlay.specs.Reads.{HaveAgreed}
 use Rattle.field_map.specs.declared.place.Place.{Place}
 use Rattle.frame_cut.specs.Traces.{count_of}
 use Rattle.trace_store.specs.Swapped.{ArePlaces}
@@ -88,7 +89,7 @@ put_each-done-requires-clause-parts c = λ sure.
     let bs : List ℕ = c.args.bytes.now in
     let places : Place × Place = (c.args.first, c.args.second) in
     let front = front_is s c.exchange_pairs.new.self.state ps c.in_ok-forth.forth.items c.exchange_pairs.ensures.state c.in_ok-forth.ensures.pairs in
-    let was : IsTrue c.args.self.now.agreed = c.exchange_pairs.ensures.agreed sure in
+    let was : HaveAgreed c.args.self.now.reads = c.exchange_pairs.ensures.reads.agreed sure in
     rw (front, c.from.ensures, c.span-at.ensures.start, c.span-at.ensures.size) (header_parts s places ps bs c.requires.rising c.requires.some c.requires.count c.requires.inside (c.stands.ensures.cut was) (c.requires.parts was) (c.requires.none was))
 
 pub put_each-done-requires-clause-cut : goal.put_each-done-requires-clause-cut
@@ -98,7 +99,7 @@ put_each-done-requires-clause-cut c = λ sure.
     let bs : List ℕ = c.args.bytes.now in
     let places : Place × Place = (c.args.first, c.args.second) in
     let front = front_is s c.exchange_pairs.new.self.state ps c.in_ok-forth.forth.items c.exchange_pairs.ensures.state c.in_ok-forth.ensures.pairs in
-    let was : IsTrue c.args.self.now.agreed = c.exchange_pairs.ensures.agreed sure in
+    let was : HaveAgreed c.args.self.now.reads = c.exchange_pairs.ensures.reads.agreed sure in
     rw (front, c.from.ensures, c.span-at.ensures.start, c.span-at.ensures.size) (front_cut s places ps bs c.requires.rising c.requires.some c.requires.count c.requires.inside (c.stands.ensures.cut was) (c.requires.parts was) (c.requires.none was))
 
 -- as many traces stand there still
@@ -123,7 +124,7 @@ returns-in-Ok-clause-ok c = λ sure.
     let places : Place × Place = (c.args.first, c.args.second) in
     let front = front_is s c.exchange_pairs.new.self.state ps c.in_ok-forth.forth.items c.exchange_pairs.ensures.state c.in_ok-forth.ensures.pairs in
     let back = back_is c.put_each-done.new.self.state c.exchange_pairs-2.new.self.state ps c.in_ok-back.back.items c.exchange_pairs-2.ensures.state c.in_ok-back.ensures.pairs in
-    let was : IsTrue c.args.self.now.agreed = c.exchange_pairs.ensures.agreed (c.put_each-done.ensures.agreed (c.exchange_pairs-2.ensures.agreed sure)) in
+    let was : HaveAgreed c.args.self.now.reads = c.exchange_pairs.ensures.reads.agreed (c.put_each-done.ensures.reads.agreed (c.exchange_pairs-2.ensures.reads.agreed sure)) in
     swapped_state s places ps bs c.requires.rising c.requires.some c.requires.count c.requires.inside (c.stands.ensures.cut was) (c.requires.parts was) (c.requires.none was)
     c.exchange_pairs.new.self.state c.put_each-done.new.self.state c.exchange_pairs-2.new.self.state c.from.result c.span-at.result.1 front c.in-Ok.ensures.ok (c.from.ensures ∙ c.span-at.ensures.start) c.span-at.ensures.size back
 

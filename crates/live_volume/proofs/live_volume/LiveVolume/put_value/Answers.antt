@@ -1,6 +1,7 @@
-use Rattle.std.proofs.Common.{◌≡◌, ◌∙◌, ◌+◌, ◌≤◌, IsTrue, ap, sym, subst, rules, refl, length, List, ℕ, arith}
+use Rattle.std.proofs.Common.{◌≡◌, ◌∙◌, ◌+◌, ◌≤◌, ap, sym, subst, rules, refl, length, List, ℕ, arith}
 use Rattle.std.proofs.lemmas.Int.{to_z-of_z}
 use Rattle.std.specs.Int.{w128}
+use Rattle.edit_overlay.specs.Reads.{Follow, HaveAgreed}
 use mir.Val.{SFits}
 use Rattle.num_order.proofs.InRangeLemmas.{in_range, length-number}
 use Rattle.num_order.specs.Number.{bytes}
@@ -66,7 +67,7 @@ put-requires-clause-samples c =
     let at = c.from-2.ensures ∙ c.offset.ensures in
     let t : List ℕ = trace_at s.volume c.args.p in
     let size : length c.write.new.bytes ≡ c.args.place.kind.size = ap (λ (u : List ℕ). length u) new ∙ length-number s.volume.head.order c.args.place.kind c.args.value in
-    let held : IsTrue c.self.inside.overlay.agreed → facts_of c.held-known.result ≡ record_of s.volume.head s.fields t = rw (← c.self.view_is) at c.held-known.ensures.facts in
+    let held : HaveAgreed c.self.inside.overlay.reads → facts_of c.held-known.result ≡ record_of s.volume.head s.fields t = rw (← c.self.view_is) at c.held-known.ensures.facts in
     rw (← c.self.view_is) (λ sure.
     let a = accepted s c.args.p c.args.place c.args.value (none sure) in
     let k = stands s.volume.head t c.args.place a.has in
@@ -84,9 +85,9 @@ returns-clause-ok c =
     let none = rw (← c.self.view_is) at c.requires.none in
     let at = c.from-2.ensures ∙ c.offset.ensures in
     let w : Volume = with_trace s.volume c.args.p (splice (trace_at s.volume c.args.p) c.from-2.result (length c.write.new.bytes) c.write.new.bytes) in
-    let held : IsTrue c.put.new.self.agreed → IsTrue c.self.inside.overlay.agreed = rw (← c.self.view_is) at c.put.ensures.agreed in
+    let held : Follow c.self.inside.overlay.reads c.put.new.self.reads = rw (← c.self.view_is) at c.put.ensures.reads in
     on_ok c.put.result (λ e sure. subst (λ (u : State). IsAfter c.args.self.now.state (Set c.args.p (field.Place c.args.place) c.args.value) u) (sym e)
-    (rw (← c.self.view_is) (after_put s c.args.p c.args.place c.args.value w c.from-2.result c.write.new.bytes (c.self.invariant.cut (held sure)) (none (held sure)) at new refl))) c.put.ensures.ok
+    (rw (← c.self.view_is) (after_put s c.args.p c.args.place c.args.value w c.from-2.result c.write.new.bytes (c.self.invariant.cut (held.agreed sure)) (none (held.agreed sure)) at new refl))) c.put.ensures.ok
 
 pub returns-clause-same : goal.returns-clause-same
 returns-clause-same c = read_as_either _ c.put.result _ _ _ c.put.ensures.ok c.put.ensures.err

@@ -1,8 +1,9 @@
-use Rattle.std.proofs.Common.{◌≡◌, ◌∙◌, IsTrue, ℕ, List, ap, sym, subst, refl, length, arith}
+use Rattle.std.proofs.Common.{◌≡◌, ◌∙◌, ℕ, List, ap, sym, subst, refl, length, arith}
 use Rattle.std.specs.Prelude.{Option, Some, unwrap_or}
 use Rattle.sample_codes.specs.declared.value_format.ValueFormat.{ValueFormat}
 use Rattle.sample_codes.specs.Formats.{values as read_as, samples_bytes, sample_fits}
 use Rattle.std.specs.List.{list_all}
+use Rattle.edit_overlay.specs.Reads.{Follow, HaveAgreed}
 use Rattle.frame_cut.specs.declared.file_head.Head.{Head}
 use Rattle.frame_cut.specs.Splice.{splice}
 use Rattle.frame_cut.specs.Traces.{trace_at, with_trace}
@@ -57,16 +58,16 @@ pub put-requires-clause-whole : goal.put-requires-clause-whole
 put-requires-clause-whole c =
     let s = state_of c.self.inside in
     let none = rw (← c.self.view_is) at c.requires.none in
-    let at : IsTrue c.self.inside.overlay.agreed → c.args.at ≡ sample_start s.volume c.args.p c.args.k = rw (← c.self.view_is) at c.requires.place in
+    let at : HaveAgreed c.self.inside.overlay.reads → c.args.at ≡ sample_start s.volume c.args.p c.args.k = rw (← c.self.view_is) at c.requires.place in
     rw (← c.self.view_is) (λ sure. (patch_fits s c.in-Some.format c.args.p c.args.k c.args.values.now c.args.at c.as_slice.result.now (reads c) (c.self.invariant.cut sure) (none sure) (at sure) (bytes_are c)).whole)
 
 -- the volume with them is the one behind the edit
-done : (c : goal.After-as_slice) → IsTrue c.self.inside.overlay.agreed → (let s : State = state_of c.self.inside in IsAfter s (Patch c.args.p c.args.k c.args.values.now)
+done : (c : goal.After-as_slice) → HaveAgreed c.self.inside.overlay.reads → (let s : State = state_of c.self.inside in IsAfter s (Patch c.args.p c.args.k c.args.values.now)
     (record s { volume = with_trace s.volume c.args.p (splice (trace_at s.volume c.args.p) c.args.at (length c.as_slice.result.now) c.as_slice.result.now) }))
 done c sure =
     let s = state_of c.self.inside in
     let none = rw (← c.self.view_is) at c.requires.none in
-    let at : IsTrue c.self.inside.overlay.agreed → c.args.at ≡ sample_start s.volume c.args.p c.args.k = rw (← c.self.view_is) at c.requires.place in
+    let at : HaveAgreed c.self.inside.overlay.reads → c.args.at ≡ sample_start s.volume c.args.p c.args.k = rw (← c.self.view_is) at c.requires.place in
     patch_done s c.in-Some.format c.args.p c.args.k c.args.values.now _ c.args.at c.as_slice.result.now (reads c) (c.self.invariant.cut sure) (none sure) (at sure) (bytes_are c) refl
 
 pub put-requires-clause-cut : goal.put-requires-clause-cut
@@ -75,9 +76,9 @@ put-requires-clause-cut c =
 
 pub returns-clause-ok : goal.returns-clause-ok
 returns-clause-ok c =
-    let held : IsTrue c.put.new.self.agreed → IsTrue c.self.inside.overlay.agreed = rw (← c.self.view_is) at c.put.ensures.agreed in
+    let held : Follow c.self.inside.overlay.reads c.put.new.self.reads = rw (← c.self.view_is) at c.put.ensures.reads in
     on_ok c.put.result (λ e sure. subst (λ (u : State). IsAfter c.args.self.now.state (Patch c.args.p c.args.k c.args.values.now) u) (sym e)
-    (rw (← c.self.view_is) (done c.before.before (held sure)))) c.put.ensures.ok
+    (rw (← c.self.view_is) (done c.before.before (held.agreed sure)))) c.put.ensures.ok
 
 pub returns-clause-same : goal.returns-clause-same
 returns-clause-same c = read_as_either _ c.put.result _ _ _ c.put.ensures.ok c.put.ensures.err

@@ -3,6 +3,7 @@ use Rattle.std.proofs.lemmas.Int.{to_z-of_z}
 use Rattle.std.specs.Int.{w128}
 use mir.Val.{SFits}
 use Rattle.std.specs.Prelude.{replicate, unwrap_or, IfOk, IfSome, IsTrue, Option}
+use Rattle.edit_overlay.specs.Reads.{HaveAgreed}
 use Rattle.sample_codes.specs.declared.value_format.ValueFormat.{ValueFormat}
 use Rattle.sample_codes.specs.Formats.{sample_fits, samples_bytes, values, width}
 use Rattle.frame_cut.specs.declared.file_head.Head.{Head}
@@ -60,7 +61,7 @@ pub returns-clause-bytes : goal.returns-clause-bytes
 returns-clause-bytes c =
     let h : Head = (state_of c.self.inside).volume.head in
     let t : List ℕ = trace_at (state_of c.self.inside).volume c.args.p in
-    let known : IsTrue c.self.inside.overlay.agreed → c.sample_count-samples.result ≡ sample_count h t = rw (← c.self.view_is) at c.sample_count-samples.ensures in
+    let known : HaveAgreed c.self.inside.overlay.reads → c.sample_count-samples.result ≡ sample_count h t = rw (← c.self.view_is) at c.sample_count-samples.ensures in
     rw (← c.self.view_is) (if_ok c.repeated_sample.result (λ bytes is sure none.
     let all : replicate c.saturating_add-count.result c.args.value ≡ range_values c.args.first c.args.last c.args.value =
     range_whole h c.in-Some.format c.args.first c.args.last c.saturating_add-count.result c.args.value (reads c) c.requires.samples c.saturating_add-count.ensures t c.sample_count-samples.result c.sample_count-samples.type_inv (known sure) none in

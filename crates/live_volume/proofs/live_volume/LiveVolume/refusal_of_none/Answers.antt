@@ -11,7 +11,7 @@ pub returns-in-Fill-clause-refusal : goal.returns-in-Fill-clause-refusal
 returns-in-Fill-clause-refusal c =
     let fit : SFits w128 c.in-Fill.value = search rules in
     rw c.in-Fill.is
-    (c.sample_value_refusal.ensures
+    (c.sample_value_refusal.ensures.refusal
     ∙ ap (λ (x : ℤ). sample_value_refusal (values c.args.self.now.state.volume.head.format) x) (to_z-of_z w128 c.in-Fill.value fit)
     ∙ sym (empty_filled c.args.self.now.state c.in-Fill.first_sample c.in-Fill.last_sample c.in-Fill.value))
 

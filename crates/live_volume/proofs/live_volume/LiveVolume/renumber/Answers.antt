@@ -20,7 +20,7 @@ use Rattle.live_volume.proofs.live_volume.LiveVolume.renumber.Goals as goal
 
 -- the traces are there
 range : (c : After-count_up) → AreTraces c.args.self.now.state.volume c.args.a c.args.b None
-range c = in_range c.args.self.now.state.volume c.args.a c.args.b (sym c.in_default.is ∙ c.range_refusal.ensures)
+range c = in_range c.args.self.now.state.volume c.args.a c.args.b (sym c.in_default.is ∙ c.range_refusal.ensures.refusal)
 
 -- the field has the place
 place : (c : After-count_up) → Some c.in-Some-place_in_trace.place ≡ place_in_trace c.args.self.now.state.fields c.args.field.now
@@ -33,7 +33,7 @@ tells c = subst (λ (s : State). tells_record s.fields (offset_of c.in-Some-plac
 
 pub returns-in-Some-2-clause-looks : goal.returns-in-Some-2-clause-looks
 returns-in-Some-2-clause-looks c =
-    let t : AreTraces c.args.self.now.state.volume c.args.a c.args.b None = in_range c.args.self.now.state.volume c.args.a c.args.b (sym c.in_default.is ∙ c.range_refusal.ensures) in
+    let t : AreTraces c.args.self.now.state.volume c.args.a c.args.b None = in_range c.args.self.now.state.volume c.args.a c.args.b (sym c.in_default.is ∙ c.range_refusal.ensures.refusal) in
     let e : Some c.in-Some-place_in_trace.place ≡ place_in_trace c.args.self.now.state.fields c.args.field.now = sym c.in-Some-place_in_trace.is ∙ c.place_in_trace.ensures in
     let seen = c.values_refusal.ensures.seen.looks in
     renumber_twice c.args.self.now.state c.args.a c.args.b c.args.field.now c.in-Some-place_in_trace.place c.args.first c.args.step c.args.self.now.looks c.values_refusal.new.self.looks c.values_refusal.new.self.looks t e seen
@@ -56,7 +56,7 @@ returns-clause-step c =
     let there : Some p ≡ place_in_trace mid.fields c.args.field.now = subst (λ (s : State). Some p ≡ place_in_trace s.fields c.args.field.now) (sym c.values_refusal.ensures.seen.state) (place c) in
     λ sure.
     stepped_unless (is_told old.fields p) old mid new (Renumber c.args.a c.args.b c.args.field.now c.args.first c.args.step) c.count_up.result
-    (renumber_first old c.args.a c.args.b c.args.field.now p c.args.first c.args.step (range c) (place c) ∙ sym (told (c.count_up.ensures.agreed sure)) ∙ c.in_default-2.is) c.values_refusal.ensures.seen.state (record {})
+    (renumber_first old c.args.a c.args.b c.args.field.now p c.args.first c.args.step (range c) (place c) ∙ sym (told (c.count_up.ensures.reads.agreed sure)) ∙ c.in_default-2.is) c.values_refusal.ensures.seen.state (record {})
     (renumber_looks old c.args.a c.args.b c.args.field.now p c.args.first c.args.step (range c) (place c))
     (on_ok c.count_up.result (λ f. renumber_same mid new c.args.a c.args.b c.args.field.now p c.args.first c.args.step there (f sure)) done) c.count_up.ensures.err
     (λ is. (c.count_up.ensures.told (tells c (both _ _ is).1)).1)

@@ -1,4 +1,4 @@
-use Rattle.std.proofs.Common.{◌≡◌, ◌∙◌, ℕ, ◌+◌, ◌<◌, ◌≤◌, ◌^◌, List, length, Ok, IsTrue, ap, sym, subst, arith, rules}
+use Rattle.std.proofs.Common.{◌≡◌, ◌∙◌, ℕ, ◌+◌, ◌<◌, ◌≤◌, ◌^◌, List, length, Ok, ap, sym, subst, arith, rules}
 use Rattle.std.proofs.lemmas.Int.{to_z-of_z}
 use Rattle.std.specs.Int.{w128}
 use mir.Val.{SFits}
@@ -60,9 +60,9 @@ returns-in-Ok-clause-none c = λ sure.
     let step : SFits w128 c.args.step = search rules in
     let s : State = c.args.self.now.state in
     let front = front_is s c.exchange_pairs.new.self.state c.args.traces.now c.in_ok-forth.forth.items c.exchange_pairs.ensures.state c.in_ok-forth.ensures.pairs in
-    let mid = c.exchange_pairs-2.ensures.agreed sure in
+    let mid = c.exchange_pairs-2.ensures.reads.agreed sure in
     (renumber_done s c.exchange_pairs.new.self.state c.renumber-done.new.self.state c.args.traces.now c.requires.rising c.requires.some front c.args.field.now c.args.first c.args.step c.in-Ok.field-0
-    (c.stands.ensures.cut (c.exchange_pairs.ensures.agreed (c.in-Ok.ensures.agreed mid))) c.requires.field (rw (to_z-of_z w128 c.args.first first, to_z-of_z w128 c.args.step step) at (c.in-Ok.ensures.step mid))).0
+    (c.stands.ensures.cut (c.exchange_pairs.ensures.reads.agreed (c.in-Ok.ensures.reads.agreed mid))) c.requires.field (rw (to_z-of_z w128 c.args.first first, to_z-of_z w128 c.args.step step) at (c.in-Ok.ensures.step mid))).0
 
 pub returns-in-Ok-clause-cut : goal.returns-in-Ok-clause-cut
 returns-in-Ok-clause-cut c = λ sure.
@@ -71,10 +71,10 @@ returns-in-Ok-clause-cut c = λ sure.
     let s : State = c.args.self.now.state in
     let front = front_is s c.exchange_pairs.new.self.state c.args.traces.now c.in_ok-forth.forth.items c.exchange_pairs.ensures.state c.in_ok-forth.ensures.pairs in
     let back = back_is c.renumber-done.new.self.state c.exchange_pairs-2.new.self.state c.args.traces.now c.in_ok-back.back.items c.exchange_pairs-2.ensures.state c.in_ok-back.ensures.pairs in
-    let mid = c.exchange_pairs-2.ensures.agreed sure in
+    let mid = c.exchange_pairs-2.ensures.reads.agreed sure in
     subst (λ (u : State). IsCut (bytes_after_each s.volume s.fields (Renumber c.args.field.now c.args.first c.args.step) c.args.traces.now) s.reading s.limits u.volume) (sym back)
     (renumber_done s c.exchange_pairs.new.self.state c.renumber-done.new.self.state c.args.traces.now c.requires.rising c.requires.some front c.args.field.now c.args.first c.args.step c.in-Ok.field-0
-    (c.stands.ensures.cut (c.exchange_pairs.ensures.agreed (c.in-Ok.ensures.agreed mid))) c.requires.field (rw (to_z-of_z w128 c.args.first first, to_z-of_z w128 c.args.step step) at (c.in-Ok.ensures.step mid))).1
+    (c.stands.ensures.cut (c.exchange_pairs.ensures.reads.agreed (c.in-Ok.ensures.reads.agreed mid))) c.requires.field (rw (to_z-of_z w128 c.args.first first, to_z-of_z w128 c.args.step step) at (c.in-Ok.ensures.step mid))).1
 
 pub returns-in-Ok-clause-fields : goal.returns-in-Ok-clause-fields
 returns-in-Ok-clause-fields c = λ sure.
@@ -83,10 +83,10 @@ returns-in-Ok-clause-fields c = λ sure.
     let s : State = c.args.self.now.state in
     let front = front_is s c.exchange_pairs.new.self.state c.args.traces.now c.in_ok-forth.forth.items c.exchange_pairs.ensures.state c.in_ok-forth.ensures.pairs in
     let back = back_is c.renumber-done.new.self.state c.exchange_pairs-2.new.self.state c.args.traces.now c.in_ok-back.back.items c.exchange_pairs-2.ensures.state c.in_ok-back.ensures.pairs in
-    let mid = c.exchange_pairs-2.ensures.agreed sure in
+    let mid = c.exchange_pairs-2.ensures.reads.agreed sure in
     ap (λ (u : State). u.fields) back
     ∙ (renumber_done s c.exchange_pairs.new.self.state c.renumber-done.new.self.state c.args.traces.now c.requires.rising c.requires.some front c.args.field.now c.args.first c.args.step c.in-Ok.field-0
-    (c.stands.ensures.cut (c.exchange_pairs.ensures.agreed (c.in-Ok.ensures.agreed mid))) c.requires.field (rw (to_z-of_z w128 c.args.first first, to_z-of_z w128 c.args.step step) at (c.in-Ok.ensures.step mid))).2
+    (c.stands.ensures.cut (c.exchange_pairs.ensures.reads.agreed (c.in-Ok.ensures.reads.agreed mid))) c.requires.field (rw (to_z-of_z w128 c.args.first first, to_z-of_z w128 c.args.step step) at (c.in-Ok.ensures.step mid))).2
 
 pub returns-in-Ok-clause-looks : goal.returns-in-Ok-clause-looks
 returns-in-Ok-clause-looks c =
@@ -101,7 +101,7 @@ returns-in-Err-clause-err c = λ sure.
     let step : SFits w128 c.args.step = search rules in
     let s : State = c.args.self.now.state in
     let front = front_is s c.exchange_pairs.new.self.state c.args.traces.now c.in_ok-forth.forth.items c.exchange_pairs.ensures.state c.in_ok-forth.ensures.pairs in
-    renumber_told s c.exchange_pairs.new.self.state c.renumber-done.new.self.state c.args.traces.now c.requires.rising c.requires.some front c.args.field.now c.args.first c.args.step _ c.in-Err.refusal (rw (to_z-of_z w128 c.args.first first, to_z-of_z w128 c.args.step step) at (c.in-Err.ensures.step (c.exchange_pairs-2.ensures.agreed sure)))
+    renumber_told s c.exchange_pairs.new.self.state c.renumber-done.new.self.state c.args.traces.now c.requires.rising c.requires.some front c.args.field.now c.args.first c.args.step _ c.in-Err.refusal (rw (to_z-of_z w128 c.args.first first, to_z-of_z w128 c.args.step step) at (c.in-Err.ensures.step (c.exchange_pairs-2.ensures.reads.agreed sure)))
 
 pub returns-in-Err-clause-unchanged : goal.returns-in-Err-clause-unchanged
 returns-in-Err-clause-unchanged c =

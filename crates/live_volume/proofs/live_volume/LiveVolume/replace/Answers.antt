@@ -1,10 +1,11 @@
-use Rattle.std.proofs.Common.{◌≡◌, ◌∙◌, ◌-◌, ℕ, IsTrue, List, Vec, Global, length, map, ap, sym, arith, subst, rules, refl}
+use Rattle.std.proofs.Common.{◌≡◌, ◌∙◌, ◌-◌, ℕ, List, Vec, Global, length, map, ap, sym, arith, subst, rules, refl}
 use Rattle.std.specs.Prelude.{slice_set}
 use Rattle.std.proofs.lemmas.List.{map-set}
 use Rattle.frame_cut.specs.Cuts.{IsCut}
 use Rattle.frame_cut.specs.Traces.{with_trace}
 use Rattle.frame_cut.specs.Volume.{Volume, bytes_of}
 use Rattle.edit_overlay.specs.CountedVolume.{CountedVolume}
+use Rattle.edit_overlay.specs.Reads.{HaveAgreed}
 use Rattle.trace_record.specs.Packed.{record_in}
 use Rattle.trace_record.specs.declared.packed_record.PackedRecord.{PackedRecord}
 use Rattle.trace_record.specs.declared.record.Record.{Record}
@@ -75,12 +76,12 @@ invariant_of-self-2 c =
     let is : e.volume ≡ w = ap (λ (o : CountedVolume PackedRecord). o.volume) c.replace.ensures ∙ placed in
     let put : map record_in e.payloads ≡ slice_set rs i c.args.trace.now =
     ap (λ (o : CountedVolume PackedRecord). map record_in o.payloads) c.replace.ensures ∙ (map-set record_in b.overlay.payloads i c.of.result ∙ ap (λ (r : Record). slice_set rs i r) c.of.ensures) in
-    let stays : e.agreed ≡ b.overlay.agreed = ap (λ (o : CountedVolume PackedRecord). o.agreed) c.replace.ensures in
-    let cut : IsTrue b.overlay.agreed → IsCut (bytes_of w) b.reading b.limits w = rw (← c.self.view_is) at c.requires.cut in
+    let stays : e.reads ≡ b.overlay.reads = ap (λ (o : CountedVolume PackedRecord). o.reads) c.replace.ensures in
+    let cut : HaveAgreed b.overlay.reads → IsCut (bytes_of w) b.reading b.limits w = rw (← c.self.view_is) at c.requires.cut in
     let own = rw (← c.self.view_is) at c.requires.record in
     held_edited b e c.exchange.new.self w (slice_set rs i c.args.trace.now) c.self.invariant is (ap (λ (o : CountedVolume PackedRecord). o.prepared) c.replace.ensures ∙ (placed ∙ sym is)) put refl
     (frame_replaced b.limits v c.args.p t c.self.invariant.frame may.first may.last may.small)
     (measured_set rs v.traces i c.args.trace.now t c.requires.number (header_of_trace v.head t may.whole) c.self.invariant.measured)
-    (λ sure. cut (subst IsTrue stays sure))
-    (λ sure. records-with_trace v b.fields.pairs rs c.args.p t c.args.trace.now (c.self.invariant.records (subst IsTrue stays sure)) (own (subst IsTrue stays sure)))
+    (λ sure. cut (subst HaveAgreed stays sure))
+    (λ sure. records-with_trace v b.fields.pairs rs c.args.p t c.args.trace.now (c.self.invariant.records (subst HaveAgreed stays sure)) (own (subst HaveAgreed stays sure)))
     (subst (λ (l : List Record). AreReportsOf c.exchange.new.self (slice_set l i c.args.trace.now)) same c.in-Ok.ensures.ok)

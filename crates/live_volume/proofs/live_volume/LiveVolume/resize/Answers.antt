@@ -1,7 +1,8 @@
-use Rattle.std.proofs.Common.{◌≡◌, ◌∙◌, IsTrue, None, sym, ap, subst, refl, rules, arith, List, ℕ}
+use Rattle.std.proofs.Common.{◌≡◌, ◌∙◌, None, sym, ap, subst, refl, rules, arith, List, ℕ}
 use Rattle.std.specs.Prelude.{nat_abs, IfErr, OnErr}
 use Rattle.std.proofs.lemmas.Int.{to_z-of_z}
 use Rattle.std.specs.Int.{w128}
+use Rattle.edit_overlay.specs.Reads.{Follow, HaveAgreed}
 use mir.Val.{SFits}
 use Rattle.room.proofs.RiseLemmas.{risen}
 use Rattle.field_map.specs.Pairs.{Pairs}
@@ -16,10 +17,11 @@ use Rattle.bench_rules.specs.State.{State, Session}
 use Rattle.bench_rules.specs.Steps.{IsAfter}
 use Rattle.bench_rules.specs.TraceEdits.{resized}
 use Rattle.bench_rules.proofs.HeaderEditLemmas.{after_cut}
+use Rattle.bench_rules.proofs.ReadTellLemmas.{edit_before}
 use Rattle.bench_rules.proofs.ResizeLemmas.{resize_done}
 use Rattle.live_volume.specs.Held.{state_of, with_volume, IsCutAs}
 use Rattle.live_volume.specs.Places.{MayReplace}
-use Rattle.live_volume.proofs.HeldLemmas.{is_there, left_as_it_was, on_ok, read_as_either, read_as_through, refused_so, stepped_by_memory, told_under}
+use Rattle.live_volume.proofs.HeldLemmas.{if_err, is_there, left_as_it_was, on_ok, read_as_either, read_as_through, refused_so, stepped_by_memory, told_under}
 use Rattle.live_volume.proofs.MeasuredLemmas.{number_of_trace}
 use Rattle.live_volume.proofs.live_volume.LiveVolume.resize.Goals as goal
 
@@ -44,12 +46,12 @@ replace-requires-clause-cut c =
     let s = state_of c.self.inside in
     let fit : SFits w128 c.args.count = search rules in
     let st : c.resized_bytes.new.self.state ≡ s = c.resized_bytes.ensures.seen.state ∙ sym (ap (λ (x : Session). x.state) c.self.view_is) in
-    let none : IsTrue c.resized_bytes.new.self.agreed → first_refusal s (Resize c.args.p c.args.count) ≡ None = rw (← c.self.view_is, to_z-of_z) at c.in_ok-bytes.ensures.none in
-    let made : IsTrue c.resized_bytes.new.self.agreed → c.in_ok-bytes.bytes.items ≡ resized s.volume.head (trace_at s.volume c.args.p) (nat_abs c.args.count) = rw (← c.self.view_is, to_z-of_z) at c.in_ok-bytes.ensures.bytes in
-    let before : IsTrue c.resized_bytes.new.self.agreed → IsTrue c.self.inside.overlay.agreed = rw (← c.self.view_is) at c.resized_bytes.ensures.seen.agreed in
+    let none : HaveAgreed c.resized_bytes.new.self.reads → first_refusal s (Resize c.args.p c.args.count) ≡ None = rw (← c.self.view_is, to_z-of_z) at c.in_ok-bytes.ensures.none in
+    let made : HaveAgreed c.resized_bytes.new.self.reads → c.in_ok-bytes.bytes.items ≡ resized s.volume.head (trace_at s.volume c.args.p) (nat_abs c.args.count) = rw (← c.self.view_is, to_z-of_z) at c.in_ok-bytes.ensures.bytes in
+    let before : Follow c.self.inside.overlay.reads c.resized_bytes.new.self.reads = rw (← c.self.view_is) at c.resized_bytes.ensures.seen.reads in
     let w : Volume = with_trace s.volume c.args.p c.in_ok-bytes.bytes.items in
     λ sure. subst (λ (u : State). IsCutAs u (with_trace u.volume c.args.p c.in_ok-bytes.bytes.items)) (sym st)
-    (after_cut s (Resize c.args.p c.args.count) w (resize_done s c.args.p c.args.count w c.in_ok-bytes.bytes.items (c.self.invariant.cut (before sure)) (none sure) (made sure) refl))
+    (after_cut s (Resize c.args.p c.args.count) w (resize_done s c.args.p c.args.count w c.in_ok-bytes.bytes.items (c.self.invariant.cut (before.agreed sure)) (none sure) (made sure) refl))
 
 pub replace-requires-clause-record : goal.replace-requires-clause-record
 replace-requires-clause-record c =
@@ -74,13 +76,13 @@ returns-clause-step c =
     let s = state_of c.self.inside in
     let fit : SFits w128 c.args.count = search rules in
     let st : c.resized_bytes.new.self.state ≡ s = c.resized_bytes.ensures.seen.state ∙ sym (ap (λ (x : Session). x.state) c.self.view_is) in
-    let none : IsTrue c.resized_bytes.new.self.agreed → first_refusal s (Resize c.args.p c.args.count) ≡ None = rw (← c.self.view_is, to_z-of_z) at c.in_ok-bytes.ensures.none in
-    let made : IsTrue c.resized_bytes.new.self.agreed → c.in_ok-bytes.bytes.items ≡ resized s.volume.head (trace_at s.volume c.args.p) (nat_abs c.args.count) = rw (← c.self.view_is, to_z-of_z) at c.in_ok-bytes.ensures.bytes in
-    let before : IsTrue c.resized_bytes.new.self.agreed → IsTrue c.self.inside.overlay.agreed = rw (← c.self.view_is) at c.resized_bytes.ensures.seen.agreed in
+    let none : HaveAgreed c.resized_bytes.new.self.reads → first_refusal s (Resize c.args.p c.args.count) ≡ None = rw (← c.self.view_is, to_z-of_z) at c.in_ok-bytes.ensures.none in
+    let made : HaveAgreed c.resized_bytes.new.self.reads → c.in_ok-bytes.bytes.items ≡ resized s.volume.head (trace_at s.volume c.args.p) (nat_abs c.args.count) = rw (← c.self.view_is, to_z-of_z) at c.in_ok-bytes.ensures.bytes in
+    let before : Follow c.self.inside.overlay.reads c.resized_bytes.new.self.reads = rw (← c.self.view_is) at c.resized_bytes.ensures.seen.reads in
     let w : Volume = with_trace s.volume c.args.p c.in_ok-bytes.bytes.items in
     rw (← c.self.view_is) (λ sure.
-    let mid = c.replace.ensures.agreed sure in
-    let done = resize_done s c.args.p c.args.count w c.in_ok-bytes.bytes.items (c.self.invariant.cut (before mid)) (none mid) (made mid) refl in
+    let mid = c.replace.ensures.reads.agreed sure in
+    let done = resize_done s c.args.p c.args.count w c.in_ok-bytes.bytes.items (c.self.invariant.cut (before.agreed mid)) (none mid) (made mid) refl in
     stepped_by_memory s c.replace.new.self.state (Resize c.args.p c.args.count) c.replace.result (none mid) (record {})
     (on_ok c.replace.result (λ e. subst (λ (u : State). IsAfter s (Resize c.args.p c.args.count) u) (sym e)
     (subst (λ (u : State). IsAfter s (Resize c.args.p c.args.count) (with_volume u (with_trace u.volume c.args.p c.in_ok-bytes.bytes.items))) (sym st) done)) c.replace.ensures.ok)
@@ -102,3 +104,13 @@ returns-clause-looks c =
 
 pub returns-clause-memory : goal.returns-clause-memory
 returns-clause-memory c = risen _ _ c.resized_bytes.new.room _ c.in_ok-bytes.ensures.memory.never_falls c.replace.ensures.memory
+
+pub returns-clause-reads : goal.returns-clause-reads
+returns-clause-reads c =
+    let first = c.resized_bytes.ensures.seen.reads in
+    let on = c.replace.ensures.reads in
+    record { agreed = λ sure. first.agreed (on.agreed sure); failures = omega (arith, first.failures, on.failures) }
+
+pub returns-clause-reads_tell : goal.returns-clause-reads_tell
+returns-clause-reads_tell c =
+    if_err c.replace.result (λ refusal told. edit_before c.args.self.now.reads c.resized_bytes.new.self.reads c.replace.new.self.reads refusal c.resized_bytes.ensures.seen.reads told) c.replace.ensures.reads_tell

@@ -13,6 +13,8 @@ use Rattle.bench_rules.specs.declared.refusal.Refusal.{Refusal}
 use Rattle.bench_rules.specs.declared.refusal.Refusal.TheVariants.{DoesNotFit, Frame, OutOfMemory, TooLarge}
 use Rattle.bench_rules.specs.Refused.{count_refusal, first_refusal}
 use Rattle.bench_rules.specs.TraceEdits.{resized}
+use Rattle.bench_rules.proofs.NoReadLemmas.{count_free, some_free}
+use Rattle.bench_rules.proofs.ReadTellLemmas.{memory_tells, no_read_tells}
 use Rattle.bench_rules.proofs.SetLemmas.{both}
 use Rattle.bench_rules.proofs.WholeTraceLemmas.{length-without}
 use Rattle.many_traces.specs.Formulas.{IsRefusalFor}
@@ -48,7 +50,7 @@ pub returns-in-Some-count_refusal-clause-seen : goal.returns-in-Some-count_refus
 returns-in-Some-count_refusal-clause-seen c =
     let there = rw c.in-Some.is at c.in_ok-trace.ensures.there in
     let seen = rw (c.in_ok-trace.was, c.in-Some.is) at c.look.follows.holds-at-none in
-    rw (← c.self.view_is, there.0 refl) (looked_at c.self.inside c.look.follows.lender-at-none 1 (seen_once c.self.inside.overlay c.look.follows.lender-at-none seen.looked seen.agreed))
+    rw (← c.self.view_is, there.0 refl) (looked_at c.self.inside c.look.follows.lender-at-none 1 (seen_once c.self.inside.overlay c.look.follows.lender-at-none seen.looked seen.reads))
 
 pub overflow_cast-count : goal.overflow_cast-count
 overflow_cast-count c =
@@ -61,7 +63,7 @@ overflow_cast-count c =
 pub invariant_of-self-2 : goal.invariant_of-self-2
 invariant_of-self-2 c =
     let seen = rw (c.in_ok-trace.was, c.in-Some.is) at c.look.follows.holds-at-none in
-    held_again c.self.inside c.look.follows.lender-at-none 1 (seen_once c.self.inside.overlay c.look.follows.lender-at-none seen.looked seen.agreed) c.self.invariant
+    held_again c.self.inside c.look.follows.lender-at-none 1 (seen_once c.self.inside.overlay c.look.follows.lender-at-none seen.looked seen.reads) c.self.invariant
 
 pub returns-clause-none : goal.returns-clause-none
 returns-clause-none c =
@@ -110,7 +112,7 @@ pub returns-clause-seen : goal.returns-clause-seen
 returns-clause-seen c =
     let there = rw c.in-Some.is at c.in_ok-trace.ensures.there in
     let seen = rw (c.in_ok-trace.was, c.in-Some.is) at c.look.follows.holds-at-none in
-    rw (← c.self.view_is, there.0 refl) (looked_at c.self.inside c.look.follows.lender-at-none 1 (seen_once c.self.inside.overlay c.look.follows.lender-at-none seen.looked seen.agreed))
+    rw (← c.self.view_is, there.0 refl) (looked_at c.self.inside c.look.follows.lender-at-none 1 (seen_once c.self.inside.overlay c.look.follows.lender-at-none seen.looked seen.reads))
 
 -- three checks, of which each refuses for a reason of its own
 others : (a b c : Bool) → (if a then Some DoesNotFit else if b then Some Frame else if c then Some TooLarge else None) ≡ Some OutOfMemory → ⊥
@@ -129,3 +131,16 @@ returns-in-Some-count_refusal-clause-memory c = record {
 
 pub returns-clause-memory : goal.returns-clause-memory
 returns-clause-memory c = record { never_falls = c.resized.ensures.memory.never_falls; rose = λ e. c.resized.ensures.memory.rose (ap is_err e) }
+
+pub returns-in-Some-count_refusal-clause-reads_tell : goal.returns-in-Some-count_refusal-clause-reads_tell
+returns-in-Some-count_refusal-clause-reads_tell c =
+    let fit : SFits w128 c.args.count = search rules in
+    let view = c.in-Some.trace in
+    let refusal = c.in-Some-count_refusal.refusal in
+    let is : c.count_refusal.result ≡ count_refusal (head_of view) c.length-length.result c.bytes-most.result (bytes_of view) c.args.count = rw (to_z-of_z w128 c.args.count fit) at c.count_refusal.ensures in
+    let told : count_refusal (head_of view) c.length-length.result c.bytes-most.result (bytes_of view) c.args.count ≡ Some refusal = sym is ∙ c.in-Some-count_refusal.is in
+    no_read_tells c.args.self.now.reads c.look.follows.lender-at-none.reads refusal (some_free _ refusal told (count_free (head_of view) c.length-length.result c.bytes-most.result (bytes_of view) c.args.count))
+
+pub returns-clause-reads_tell : goal.returns-clause-reads_tell
+returns-clause-reads_tell c =
+    if_err c.resized.result (λ refusal e. memory_tells c.args.self.now.reads c.look.follows.lender-at-none.reads refusal e) c.resized.ensures.err

@@ -46,7 +46,7 @@ returns-clause-step c =
     let done = rw (to_z-of_z w128 c.args.value wide) at c.put_value.ensures.ok in
     λ sure.
     stepped_unless (is_told s.fields c.args.place) s s c.put_value.new.self.state (Set c.args.p (field.Place c.args.place) c.args.value) c.put_value.result
-    (none_refuses_it s c.args.p c.args.place c.args.value (c.stands.ensures.cut (c.put_value.ensures.agreed sure)) (there c.before.before.before.before) (free c.before.before.before.before) (sym (fit c.before.before.before.before) ∙ c.if-not-fits.false)) refl (record {})
+    (none_refuses_it s c.args.p c.args.place c.args.value (c.stands.ensures.cut (c.put_value.ensures.reads.agreed sure)) (there c.before.before.before.before) (free c.before.before.before.before) (sym (fit c.before.before.before.before) ∙ c.if-not-fits.false)) refl (record {})
     (set_looks s c.args.p c.args.place c.args.value (there c.before.before.before.before)) (on_ok c.put_value.result (λ f. f sure) done) c.put_value.ensures.err (λ told. (c.put_value.ensures.told (both _ _ told).1).1)
 
 pub returns-clause-looks : goal.returns-clause-looks

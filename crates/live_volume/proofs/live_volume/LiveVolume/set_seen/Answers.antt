@@ -45,7 +45,7 @@ returns-in-None-clause-step c =
     let bound : is_trace s.volume c.args.p ≡ true → leaves_length c.args.place ≡ false = rw (← c.self.view_is) at c.requires in
     let there : is_trace s.volume c.args.p ≡ true = is_there s.volume c.args.p room.first room.last in
     rw (← c.self.view_is) (λ sure.
-    let mid = c.put_value.ensures.agreed sure in
+    let mid = c.put_value.ensures.reads.agreed sure in
     stepped s _ c.put_value.new.self.state (Set c.args.p (field.Place c.args.place) c.args.value) c.put_value.result (sym (told mid) ∙ c.in-None.is) look.state (record {})
     (set_looks s c.args.p c.args.place c.args.value there (untold s.fields c.args.place (bound there)))
     (on_ok c.put_value.result (λ f. f sure) done) c.put_value.ensures.err)

@@ -1,4 +1,4 @@
-use Rattle.std.proofs.Common.{◌≡◌, ◌∙◌, ap, sym, true, None, IsTrue, List, map, length, subst, refl}
+use Rattle.std.proofs.Common.{◌≡◌, ◌∙◌, ap, sym, true, None, List, map, length, subst, refl}
 use Rattle.std.specs.Str.{chars}
 use Rattle.text_block.specs.Blocks.{code_of}
 use Rattle.text_block.specs.Lines.{text_fault, encoded_line}
@@ -6,6 +6,7 @@ use Rattle.frame_cut.specs.Parts.{with_line}
 use Rattle.frame_cut.specs.Volume.{Volume}
 use Rattle.bench_rules.specs.declared.edit.Edit.TheVariants.{SetText}
 use Rattle.edit_overlay.specs.CountedVolume.{CountedVolume}
+use Rattle.edit_overlay.specs.Reads.{HaveAgreed}
 use Rattle.trace_record.specs.declared.packed_record.PackedRecord.{PackedRecord}
 use Rattle.trace_record.specs.Packed.{record_in}
 use Rattle.live_volume.specs.Held.{state_of, records_in}
@@ -31,12 +32,12 @@ invariant_of-self c =
     let w : Volume = with_line v c.args.q c.in_ok-line.line in
     let e : CountedVolume PackedRecord = c.put_text.new.self in
     let is : e.volume ≡ w = ap (λ (o : CountedVolume PackedRecord). o.volume) c.put_text.ensures in
-    let stays : e.agreed ≡ b.overlay.agreed = ap (λ (o : CountedVolume PackedRecord). o.agreed) c.put_text.ensures in
+    let stays : e.reads ≡ b.overlay.reads = ap (λ (o : CountedVolume PackedRecord). o.reads) c.put_text.ensures in
     held_edited b e b.reports w (records_in b) c.self.invariant is (ap (λ (o : CountedVolume PackedRecord). o.prepared) c.put_text.ensures ∙ sym is)
     (ap (λ (o : CountedVolume PackedRecord). map record_in o.payloads) c.put_text.ensures) refl
     (frame_line b.limits v c.args.q c.in_ok-line.line c.self.invariant.frame (leb-true _ _ range.0) (leb-true _ _ range.1) long) c.self.invariant.measured
-    (λ sure. after_cut (state_of b) (SetText c.args.q c.args.text.now) w (text_done (state_of b) c.args.q c.args.text.now w c.in_ok-line.line (c.self.invariant.cut (subst IsTrue stays sure)) there none line refl))
-    (λ sure. c.self.invariant.records (subst IsTrue stays sure)) c.self.invariant.reports
+    (λ sure. after_cut (state_of b) (SetText c.args.q c.args.text.now) w (text_done (state_of b) c.args.q c.args.text.now w c.in_ok-line.line (c.self.invariant.cut (subst HaveAgreed stays sure)) there none line refl))
+    (λ sure. c.self.invariant.records (subst HaveAgreed stays sure)) c.self.invariant.reports
 
 pub returns-clause-step : goal.returns-clause-step
 returns-clause-step c =
@@ -47,10 +48,10 @@ returns-clause-step c =
     let line : c.in_ok-line.line ≡ encoded_line (code_of v.text) (chars c.args.text.now) = rw (code, c.as_str.ensures) at c.in_ok-line.ensures.line in
     let there : is_line c.args.q ≡ true = sym c.is_line.ensures ∙ c.if-not-is_line.false in
     let w : Volume = with_line v c.args.q c.in_ok-line.line in
-    let stays : c.put_text.new.self.agreed ≡ b.overlay.agreed = ap (λ (o : CountedVolume PackedRecord). o.agreed) c.put_text.ensures in
+    let stays : c.put_text.new.self.reads ≡ b.overlay.reads = ap (λ (o : CountedVolume PackedRecord). o.reads) c.put_text.ensures in
     let state = state_with b c.put_text.new.self w (ap (λ (o : CountedVolume PackedRecord). o.volume) c.put_text.ensures) (ap (λ (o : CountedVolume PackedRecord). o.loaded) c.put_text.ensures) in
     rw (← c.self.view_is) (λ sure. rw (state, text_refused_none (state_of b) c.args.q c.args.text.now there none)
-    (text_done (state_of b) c.args.q c.args.text.now w c.in_ok-line.line (c.self.invariant.cut (subst IsTrue stays sure)) there none line refl))
+    (text_done (state_of b) c.args.q c.args.text.now w c.in_ok-line.line (c.self.invariant.cut (subst HaveAgreed stays sure)) there none line refl))
 
 pub returns-clause-same : goal.returns-clause-same
 returns-clause-same c =

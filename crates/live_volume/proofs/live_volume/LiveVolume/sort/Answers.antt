@@ -1,4 +1,4 @@
-use Rattle.std.proofs.Common.{◌≡◌, ◌∙◌, ℕ, ◌+◌, ◌-◌, Bool, List, None, ap, sym, subst}
+use Rattle.std.proofs.Common.{◌≡◌, ◌∙◌, ℕ, ◌+◌, ◌-◌, Bool, List, None, ap, sym, subst, arith}
 use Rattle.frame_cut.specs.Traces.{count_of}
 use Rattle.trace_store.specs.Swapped.{with_places_swapped, ArePlaces}
 use Rattle.edit_overlay.specs.CountedVolume.{RisesAtMost}
@@ -32,7 +32,7 @@ returns-in-Err-clause-step c =
     let look = looked_at c.self.inside c.exchanges_to_sort.new.overlay _ c.exchanges_to_sort.ensures.seen in
     rw (← c.self.view_is) (λ sure.
     sort_told _ (session_of c.self.inside).state _ c.args.a c.args.b c.args.fields.now c.args.falling.now c.in-Err.refusal
-    (rw (← c.self.view_is) at (in_range c.args.self.now.state.volume c.args.a c.args.b (sym c.in_default.is ∙ c.range_refusal.ensures))) (under sure c.in-Err.ensures.err) look.state)
+    (rw (← c.self.view_is) at (in_range c.args.self.now.state.volume c.args.a c.args.b (sym c.in_default.is ∙ c.range_refusal.ensures.refusal))) (under sure c.in-Err.ensures.err) look.state)
 
 pub returns-in-Err-clause-err : goal.returns-in-Err-clause-err
 returns-in-Err-clause-err c =
@@ -45,7 +45,7 @@ returns-in-Err-clause-same c =
 pub returns-in-Err-clause-looks : goal.returns-in-Err-clause-looks
 returns-in-Err-clause-looks c =
     granted (session_of c.self.inside) c.args.self.now c.exchanges_to_sort.new.overlay.looks c.args.a c.args.b c.args.fields.now c.args.falling.now c.self.view_is
-    (in_range c.args.self.now.state.volume c.args.a c.args.b (sym c.in_default.is ∙ c.range_refusal.ensures)) c.exchanges_to_sort.ensures.seen.looks
+    (in_range c.args.self.now.state.volume c.args.a c.args.b (sym c.in_default.is ∙ c.range_refusal.ensures.refusal)) c.exchanges_to_sort.ensures.seen.looks
 
 pub invariant_of-self : goal.invariant_of-self
 invariant_of-self c = held_again c.self.inside c.exchanges_to_sort.new.overlay _ c.exchanges_to_sort.ensures.seen c.self.invariant
@@ -62,10 +62,10 @@ returns-clause-step c =
     let is : c.exchange_pairs.new.self.state ≡ record old { volume = with_places_swapped old.volume c.in-Ok.pairs.items } =
     c.exchange_pairs.ensures.state ∙ ap (λ (s : State). let u : State = record s { volume = with_places_swapped s.volume c.in-Ok.pairs.items } in u) look.state in
     λ sure.
-    let mid = c.exchange_pairs.ensures.agreed sure in
+    let mid = c.exchange_pairs.ensures.reads.agreed sure in
     let l =
-    is-sorted old c.args.a c.args.b c.args.fields.now c.args.falling.now c.in-Ok.pairs.items (c.stands.ensures.cut (look.agreed mid))
-    (in_range old.volume c.args.a c.args.b (sym c.in_default.is ∙ c.range_refusal.ensures)) (rw (← c.self.view_is) (c.in-Ok.ensures.ok mid)) in
+    is-sorted old c.args.a c.args.b c.args.fields.now c.args.falling.now c.in-Ok.pairs.items (c.stands.ensures.cut (look.reads.agreed mid))
+    (in_range old.volume c.args.a c.args.b (sym c.in_default.is ∙ c.range_refusal.ensures.refusal)) (rw (← c.self.view_is) (c.in-Ok.ensures.ok mid)) in
     rw l.none (subst (λ (s : State). IsAfter old edit s) (sym is) l.done)
 
 pub returns-clause-same : goal.returns-clause-same
@@ -73,13 +73,17 @@ returns-clause-same c =
     let look = looked_as c.self.inside c.exchanges_to_sort.new.overlay _ c.args.self.now c.self.view_is c.exchanges_to_sort.ensures.seen in
     read_as_through _ _ _ look.state (read_as _ _ _ c.exchange_pairs.ensures.state)
 
-pub returns-clause-agreed : goal.returns-clause-agreed
-returns-clause-agreed c =
+pub returns-clause-reads : goal.returns-clause-reads
+returns-clause-reads c =
     let look = looked_as c.self.inside c.exchanges_to_sort.new.overlay _ c.args.self.now c.self.view_is c.exchanges_to_sort.ensures.seen in
-    λ sure. look.agreed (c.exchange_pairs.ensures.agreed sure)
+    let on = c.exchange_pairs.ensures.reads in
+    record { agreed = λ sure. look.reads.agreed (on.agreed sure); failures = omega (arith, look.reads.failures, on.failures) }
+
+pub returns-in-Err-clause-reads_tell : goal.returns-in-Err-clause-reads_tell
+returns-in-Err-clause-reads_tell c = rw (← c.self.view_is) c.in-Err.ensures.reads_tell
 
 pub returns-clause-looks : goal.returns-clause-looks
 returns-clause-looks c =
     subst (λ (n : ℕ). RisesAtMost c.args.self.now.looks n (edit_looks c.args.self.now.state (Sort c.args.a c.args.b c.args.fields.now c.args.falling.now))) (sym c.exchange_pairs.ensures.looks)
     (granted (session_of c.self.inside) c.args.self.now c.exchanges_to_sort.new.overlay.looks c.args.a c.args.b c.args.fields.now c.args.falling.now c.self.view_is
-    (in_range c.args.self.now.state.volume c.args.a c.args.b (sym c.in_default.is ∙ c.range_refusal.ensures)) c.exchanges_to_sort.ensures.seen.looks)
+    (in_range c.args.self.now.state.volume c.args.a c.args.b (sym c.in_default.is ∙ c.range_refusal.ensures.refusal)) c.exchanges_to_sort.ensures.seen.looks)

@@ -47,7 +47,7 @@ returns-clause-none c =
     let a : Place = c.in-Some.first in
     let b : Place = c.in-Some-place_in_trace.second in
     let found = both_places s.fields c.args.first.now c.args.second.now a b (sym c.in-Some.is ∙ c.place_in_trace.ensures) (sym c.in-Some-place_in_trace.is ∙ c.place_in_trace-2.ensures) in
-    on_ok c.put_swapped.result (λ done sure. swap_free s c.args.first.now c.args.second.now a b ps found (c.in-Ok.ensures.none (c.put_swapped.ensures.agreed sure))) c.put_swapped.ensures.ok
+    on_ok c.put_swapped.result (λ done sure. swap_free s c.args.first.now c.args.second.now a b ps found (c.in-Ok.ensures.none (c.put_swapped.ensures.reads.agreed sure))) c.put_swapped.ensures.ok
 
 pub returns-clause-cut : goal.returns-clause-cut
 returns-clause-cut c =
@@ -59,11 +59,11 @@ returns-clause-cut c =
     let mid : c.swapped.new.self.state ≡ s = c.swapped.ensures.seen.state in
     on_ok c.put_swapped.result
     (λ done sure.
-    let before = c.put_swapped.ensures.agreed sure in
+    let before = c.put_swapped.ensures.reads.agreed sure in
     let is : c.put_swapped.new.self.state ≡ with_volume s (changed_each (swapped s.volume.head (a, b)) s.volume ps) =
     done sure ∙ ap (λ (u : State). with_volume u (changed_each (swapped u.volume.head (a, b)) u.volume ps)) mid in
     subst (λ (u : State). IsCut (bytes_after_each s.volume s.fields (Swap c.args.first.now c.args.second.now) ps) s.reading s.limits u.volume) (sym is)
-    (swap_cut s c.args.first.now c.args.second.now a b ps found (c.stands.ensures.cut (c.swapped.ensures.seen.agreed before)) c.requires.rising (c.in-Ok.ensures.none before)))
+    (swap_cut s c.args.first.now c.args.second.now a b ps found (c.stands.ensures.cut (c.swapped.ensures.seen.reads.agreed before)) c.requires.rising (c.in-Ok.ensures.none before)))
     c.put_swapped.ensures.ok
 
 pub returns-clause-fields : goal.returns-clause-fields

@@ -1,4 +1,4 @@
-use Rattle.std.proofs.Common.{◌≡◌, ◌≢◌, ◌∙◌, Option, None, ap, sym, rules}
+use Rattle.std.proofs.Common.{◌≡◌, ◌≢◌, ◌∙◌, Option, None, ap, sym, subst, rules}
 use Rattle.std.proofs.lemmas.Int.{to_z-of_z}
 use Rattle.std.specs.Int.{w128}
 use mir.Val.{SFits}
@@ -6,8 +6,10 @@ use Rattle.std.specs.Prelude.{IfSome, Some}
 use Rattle.trace_view.specs.Shown.{bytes_of, head_of}
 use Rattle.bench_rules.specs.declared.refusal.Refusal.{Refusal}
 use Rattle.bench_rules.specs.declared.refusal.Refusal.TheVariants.{OutOfMemory}
+use Rattle.bench_rules.specs.ReadFaults.{IsRefusalOfNoRead}
 use Rattle.bench_rules.specs.Refused.{set_refusal}
 use Rattle.bench_rules.proofs.EditMemoryLemmas.{set_memory}
+use Rattle.bench_rules.proofs.NoReadLemmas.{set_free}
 use Rattle.bench_rules.specs.TraceEdits.{counted}
 use Rattle.live_volume.proofs.HeldLemmas.{looked_as, seen_once}
 use Rattle.live_volume.proofs.RoomLemmas.{fits_in_view, holds_in_view, told_of_trace}
@@ -39,7 +41,7 @@ returns-clause-fit c =
 pub returns-clause-seen : goal.returns-clause-seen
 returns-clause-seen c =
     let seen = rw (c.in_ok-trace.was, c.in-Some.is) at c.look.follows.holds-at-none in
-    looked_as c.self.inside c.look.follows.lender-at-none 1 c.args.self.now c.self.view_is (seen_once c.self.inside.overlay c.look.follows.lender-at-none seen.looked seen.agreed)
+    looked_as c.self.inside c.look.follows.lender-at-none 1 c.args.self.now c.self.view_is (seen_once c.self.inside.overlay c.look.follows.lender-at-none seen.looked seen.reads)
 
 not_told : (o : Option Refusal) → (o ≡ Some OutOfMemory → ⊥) → IfSome o (λ r. r ≢ OutOfMemory)
 not_told None never = tt
@@ -48,3 +50,7 @@ not_told (Some r) never = λ e. never (ap Some e)
 pub returns-clause-other : goal.returns-clause-other
 returns-clause-other c =
     not_told c.renumber_refusal.result (λ e. set_memory (head_of c.in-Some.trace) (bytes_of c.in-Some.trace) (Some c.args.place) _ (sym c.renumber_refusal.ensures ∙ e))
+
+pub returns-clause-rule : goal.returns-clause-rule
+returns-clause-rule c =
+    subst (λ (o : Option Refusal). IfSome o IsRefusalOfNoRead) (sym c.renumber_refusal.ensures) (set_free (head_of c.in-Some.trace) (bytes_of c.in-Some.trace) (Some c.args.place) _)

@@ -1,9 +1,12 @@
 use Rattle.std.proofs.Common.{List, sym, subst, option_copied}
 use Rattle.trace_view.specs.declared.run.Run.{Run}
-use Rattle.trace_view.specs.Runs.{Fit}
-use Rattle.trace_store.specs.Slots.{size_of}
-use Rattle.trace_store.proofs.FallLemmas.{store_falls}
-use Rattle.trace_store.proofs.FetchLemmas.{chosen_runs, fetched_in_memory, laid-fit}
+use Rattle.trace_view.specs.Runs.{Fit, bytes_with_runs}
+use Rattle.frame_cut.specs.Cuts.{IsTrace}
+use Rattle.base_file.specs.HeldBytes.{IsSure}
+use Rattle.base_file.proofs.HeldLemmas.{sure_before}
+use Rattle.trace_store.specs.Slots.{base_of, size_of}
+use Rattle.trace_store.proofs.FallLemmas.{look_fault, store_falls}
+use Rattle.trace_store.proofs.FetchLemmas.{chosen_runs, fetched_in_memory, laid-fit, laid-whole}
 use Rattle.trace_store.proofs.SlotLemmas.{slot-found, slot-missed}
 use Rattle.trace_store.proofs.store.TraceStore.fetch_with.Goals as goal
 
@@ -17,6 +20,12 @@ fetch-requires-clause-inside g c =
     let s = c.args.self.now in
     let sound = slot-found s.loaded s.head s.order.ids s.slots c.args.p c.id-id.result c.in-Some.slot.now s.sound.held c.id-id.ensures (sym c.in-Some.ensures) in
     sound.inside
+
+pub fetch-requires-clause-room : goal.fetch-requires-clause-room
+fetch-requires-clause-room g c =
+    let s = c.args.self.now in
+    let sound = slot-found s.loaded s.head s.order.ids s.slots c.args.p c.id-id.result c.in-Some.slot.now s.sound.held c.id-id.ensures (sym c.in-Some.ensures) in
+    sound.room
 
 pub fetch-requires-clause-fit : goal.fetch-requires-clause-fit
 fetch-requires-clause-fit g c =
@@ -36,3 +45,15 @@ pub unreachable-requires : goal.unreachable-requires
 unreachable-requires g c =
     let s = c.args.self.now in
     slot-missed s.loaded s.head s.order.ids s.slots c.args.p c.id-id.result s.sound.held c.id-id.ensures (sym c.in-None.ensures)
+
+pub returns-clause-fault : goal.returns-clause-fault
+returns-clause-fault g c =
+    let s = c.args.self.now in
+    let new = c.fetch.new.loaded in
+    let slot = c.in-Some.slot.now in
+    let sound = slot-found s.loaded s.head s.order.ids s.slots c.args.p c.id-id.result slot s.sound.held c.id-id.ensures (sym c.in-Some.ensures) in
+    let runs = chosen_runs c.args.laid c.runs.result c.unwrap_or-runs.result slot.layers.runs c.unwrap_or-runs.ensures c.runs.ensures in
+    look_fault c.fetch.result s.loaded new
+    (λ (sure : IsSure new.standing). subst (λ (rs : List Run). IsTrace s.head (bytes_with_runs (base_of s.loaded.bytes slot.layers.base) rs)) (sym runs)
+    (laid-whole s c.args.p c.id-id.result slot c.id-id.ensures (sym c.in-Some.ensures) (option_copied c.args.laid) sound c.requires.laid (sure_before s.loaded.standing new.standing c.fetch.ensures.still.standing sure)))
+    c.fetch.ensures.fault

@@ -57,7 +57,7 @@ invariant_of-self-2 g c =
     let s = c.args.self.now in
     let key = c.insert_reserved-id.result in
     let new : Slot g.row.T.Denot = record { layers = c.in_ok-layers.layers; payload = c.args.payload } in
-    let fresh : IsFreshSlot s.loaded s.head new c.args.base = fresh-slot s.loaded s.head new c.args.base c.in_ok-layers.ensures.base c.requires.inside c.requires.whole in
+    let fresh : IsFreshSlot s.loaded s.head new c.args.base = fresh-slot s.loaded s.head new c.args.base c.in_ok-layers.ensures.base c.requires.inside c.requires.room c.requires.whole in
     let room : SameValues s.slots c.reserve.new.self = room-made s.slots c.reserve.new.self c.reserve.new.self.capacity c.reserve.ensures.rest_kept in
     let held : AreHeld s.loaded s.head s.order.ids c.reserve.new.self = held-same s.loaded s.head s.order.ids s.slots c.reserve.new.self s.sound.held room in
     let absent : times key s.order.ids ≡ 0 = vacant-absent s.loaded s.head s.order.ids c.reserve.new.self key held c.insert_reserved-id.ensures.was_vacant in
@@ -78,7 +78,7 @@ returns-clause-ok g c =
     let s = c.args.self.now in
     let key = c.insert_reserved-id.result in
     let new : Slot g.row.T.Denot = record { layers = c.in_ok-layers.layers; payload = c.args.payload } in
-    let fresh : IsFreshSlot s.loaded s.head new c.args.base = fresh-slot s.loaded s.head new c.args.base c.in_ok-layers.ensures.base c.requires.inside c.requires.whole in
+    let fresh : IsFreshSlot s.loaded s.head new c.args.base = fresh-slot s.loaded s.head new c.args.base c.in_ok-layers.ensures.base c.requires.inside c.requires.room c.requires.whole in
     let room : SameValues s.slots c.reserve.new.self = room-made s.slots c.reserve.new.self c.reserve.new.self.capacity c.reserve.ensures.rest_kept in
     let held : AreHeld s.loaded s.head s.order.ids c.reserve.new.self = held-same s.loaded s.head s.order.ids s.slots c.reserve.new.self s.sound.held room in
     let absent : times key s.order.ids ≡ 0 = vacant-absent s.loaded s.head s.order.ids c.reserve.new.self key held c.insert_reserved-id.ensures.was_vacant in

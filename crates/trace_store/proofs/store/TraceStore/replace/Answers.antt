@@ -17,7 +17,7 @@ pub invariant_of-self : goal.invariant_of-self
 invariant_of-self g c =
     let s = c.args.self.now in
     let new : Slot g.row.T.Denot = record { layers = c.added.result; payload = c.args.payload } in
-    let fresh : IsFreshSlot s.loaded s.head new (Added c.args.bytes.value) = fresh-slot s.loaded s.head new (Added c.args.bytes.value) c.added.ensures tt c.requires.whole in
+    let fresh : IsFreshSlot s.loaded s.head new (Added c.args.bytes.value) = fresh-slot s.loaded s.head new (Added c.args.bytes.value) c.added.ensures tt tt c.requires.whole in
     let up : Updates s.slots (with_value s.slots c.id-id.result new) c.id-id.result (Some new) = write-updates s.slots c.id-id.result c.in-Some.slot.now new (sym c.in-Some.ensures.value) in
     record {
       sound = record {
@@ -32,7 +32,7 @@ pub returns-clause-traces : goal.returns-clause-traces
 returns-clause-traces g c =
     let s = c.args.self.now in
     let new : Slot g.row.T.Denot = record { layers = c.added.result; payload = c.args.payload } in
-    let fresh : IsFreshSlot s.loaded s.head new (Added c.args.bytes.value) = fresh-slot s.loaded s.head new (Added c.args.bytes.value) c.added.ensures tt c.requires.whole in
+    let fresh : IsFreshSlot s.loaded s.head new (Added c.args.bytes.value) = fresh-slot s.loaded s.head new (Added c.args.bytes.value) c.added.ensures tt tt c.requires.whole in
     let up : Updates s.slots (with_value s.slots c.id-id.result new) c.id-id.result (Some new) = write-updates s.slots c.id-id.result c.in-Some.slot.now new (sym c.in-Some.ensures.value) in
     traces-changed s.loaded.bytes s.order.ids s.slots (with_value s.slots c.id-id.result new) c.args.p c.id-id.result new s.sound.distinct c.id-id.ensures up
     ∙ ap (λ (t : List ℕ). slice_set (traces_of s) (c.args.p - 1) t) fresh.shows

@@ -18,7 +18,7 @@ invariant_of-self g c =
     let old : Slot g.row.T.Denot = c.in-Some.slot.now in
     let new : Slot g.row.T.Denot = record { layers = old.layers; payload = c.args.payload } in
     let slot = slot-found s.loaded s.head s.order.ids s.slots c.args.p id old s.sound.held c.id-id.ensures (sym c.in-Some.ensures.value) in
-    let sound : IsSlot s.loaded s.head new = record { inside = slot.inside; fit = slot.fit; whole = slot.whole } in
+    let sound : IsSlot s.loaded s.head new = record { inside = slot.inside; room = slot.room; fit = slot.fit; whole = slot.whole } in
     let up : Updates s.slots (with_value s.slots id new) id (Some new) = write-updates s.slots id old new (sym c.in-Some.ensures.value) in
     record {
       sound = record {

@@ -1,6 +1,6 @@
-use Rattle.std.proofs.Common.{ℕ, ◌-◌, ◌≤◌, length}
+use Rattle.std.proofs.Common.{◌≡◌, ℕ, ◌+◌, ◌-◌, ◌≤◌, length}
 use Rattle.base_file.specs.HeldBytes.{HasGrown}
-use Rattle.trace_store.specs.Windows.{IsNextOf}
+use Rattle.trace_store.specs.Windows.{block_of, IsNextOf}
 use Rattle.trace_store.proofs.window.Window.read_up_to.Given as goal
 
 abbrev pub invariant-turns : goal.invariant-turns
@@ -8,6 +8,9 @@ invariant-turns l = record {
   grown : HasGrown l.fn.held l.held;
   next : (at : ℕ) → IsNextOf l.fn.held.bytes at l.fn.self.bytes → IsNextOf l.held.bytes at l.self.bytes;
   within : length l.held.bytes ≤ l.size;
+  room : length l.self.bytes + l.self.room ≡ length l.fn.self.bytes + l.fn.self.room;
+  block : block_of l.self ≡ block_of l.fn.self;
+  left : length l.self.bytes + (l.size - length l.held.bytes) ≡ length l.fn.self.bytes + (l.size - length l.fn.held.bytes);
 }
 
 abbrev pub decreases-turns : goal.decreases-turns

@@ -1,4 +1,5 @@
-use Rattle.std.proofs.Common.{◌≡◌, ◌∙◌, ℕ, List, length, take, drop, refl, sym, ap, arith}
+use Rattle.std.proofs.Common.{◌≡◌, ◌∙◌, ℕ, List, length, take, drop, refl, sym, ap, subst, arith}
+use Rattle.base_file.specs.HeldBytes.{IsInMemory}
 use Rattle.frame_cut.specs.Layout.{pieces, volume_at}
 use Rattle.frame_cut.specs.Volume.{Volume, bytes_of}
 use Rattle.trace_store.specs.Stores.{payloads_of}
@@ -10,6 +11,11 @@ pub new-requires-clause-ends : goal.new-requires-clause-ends
 new-requires-clause-ends g c =
     let l = c.self.invariant in
     record { front = l.laid.front; whole = l.laid.whole; front_kept = omega (arith, l.laid.whole, l.front); back_kept = omega (arith, l.laid.whole, l.back) }
+
+pub new-requires-clause-lends : goal.new-requires-clause-lends
+new-requires-clause-lends g c =
+    let inside : IsInMemory c.self.inside.store.loaded.standing = c.self.invariant.in_memory in
+    record { passed = λ e. subst IsInMemory e inside; some = λ away. absurd (away inside) }
 
 pub new-requires-clause-joined : goal.new-requires-clause-joined
 new-requires-clause-joined g c =

@@ -27,8 +27,8 @@ returns-clause-cut g c =
 pub returns-clause-in_memory : goal.returns-clause-in_memory
 returns-clause-in_memory g c = ap is_on_disk c.in-Ok.ensures.standing
 
-pub returns-clause-agreed : goal.returns-clause-agreed
-returns-clause-agreed g c = ap is_sure c.in-Ok.ensures.standing
+pub returns-clause-reads : goal.returns-clause-reads
+returns-clause-reads g c = ap is_sure c.in-Ok.ensures.standing
 
 pub returns-clause-loaded : goal.returns-clause-loaded
 returns-clause-loaded g c =

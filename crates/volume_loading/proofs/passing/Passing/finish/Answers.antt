@@ -1,9 +1,11 @@
-use Rattle.std.proofs.Common.{◌≡◌, ◌∙◌, ◌+◌, ◌-◌, ◌*◌, ℕ, length, drop, refl, sym, ap, arith, subst}
+use Rattle.std.proofs.Common.{◌≡◌, ◌∙◌, ◌+◌, ◌-◌, ◌*◌, ℕ, length, drop, true, refl, sym, ap, arith}
 use Rattle.std.proofs.lemmas.List.{length-drop}
-use Rattle.base_file.specs.HeldBytes.{IsInMemory}
+use Rattle.base_file.specs.HeldBytes.{OnDisk, OnPass, after_pass}
 use Rattle.frame_cut.specs.declared.file_head.Head.{Head}
+use Rattle.trace_store.specs.Stores.{traces_of}
+use Rattle.trace_store.specs.Windows.{block_of}
 use Rattle.edit_overlay.specs.Standings.{is_on_disk, is_sure}
-use Rattle.volume_loading.proofs.PassingLemmas.{cut_whole, header_settled, headers_there, joined_whole, laid_whole, settled_of, tail_whole}
+use Rattle.volume_loading.proofs.PassingLemmas.{cut_whole, each_fits, header_settled, headers_there, joined_whole, laid_whole, out_of_memory, settled_apart, settled_of, tail_whole}
 use Rattle.volume_loading.proofs.PassLemmas.{more_again}
 use Rattle.volume_loading.proofs.passing.Passing.finish.Goals as goal
 
@@ -22,6 +24,25 @@ settle-store-requires-clause-back g c =
     let place : p.at + p.tail ≡ length file - length c.in-Ok-last_bytes.back.items = omega (arith, ap length back, length-drop (p.at + p.tail) file, c.in-Ok-last_bytes.ensures.all, end) in
     back ∙ ap (λ (i : ℕ). drop i file) place
 
+pub settle-store-requires-clause-room : goal.settle-store-requires-clause-room
+settle-store-requires-clause-room g c = λ _.
+    let p = c.self.inside in
+    let m = c.last_bytes.new.store in
+    let more = more_again p.store c.skip_bytes.new.store m c.skip_bytes.ensures.grown c.last_bytes.ensures.grown in
+    each_fits (traces_of p.store) (traces_of m) (block_of p.window) (length c.into_room.result.items) more.traces (omega (arith, c.into_room.ensures, c.skip_bytes.ensures.block, c.last_bytes.ensures.block)) c.self.invariant.each
+
+pub new-requires-clause-lends : goal.new-requires-clause-lends
+new-requires-clause-lends g c =
+    let p = c.self.inside in
+    let kept = c.settle-store.ensures in
+    let passing : c.last_bytes.new.store.loaded.standing ≡ OnPass = c.last_bytes.ensures.grown.loaded.standing ∙ (c.skip_bytes.ensures.grown.loaded.standing ∙ c.self.invariant.standing) in
+    let standing : c.settle-store.result.loaded.standing ≡ OnDisk true = kept.standing ∙ ap after_pass passing in
+    let most = kept.most (out_of_memory c.last_bytes.new.store.loaded.standing passing) in
+    record {
+      passed = λ e. settled_apart (sym standing ∙ e);
+      some = λ _. omega (arith, most, c.into_room.ensures, c.skip_bytes.ensures.block, c.last_bytes.ensures.block, c.self.invariant.block);
+    }
+
 pub new-requires-clause-ends : goal.new-requires-clause-ends
 new-requires-clause-ends g c =
     let p = c.self.inside in
@@ -30,7 +51,7 @@ new-requires-clause-ends g c =
     let end : p.at + p.tail + 3200 * p.store.head.trailer ≡ p.size = rw (← c.self.view_is) at c.requires in
     let laid = laid_whole p c.settle-store.result c.self.invariant settled end in
     let standing = c.last_bytes.ensures.grown.loaded.standing ∙ (c.skip_bytes.ensures.grown.loaded.standing ∙ c.self.invariant.standing) in
-    let behind = λ (inside : IsInMemory c.last_bytes.new.store.loaded.standing). subst IsInMemory standing inside in
+    let behind = out_of_memory c.last_bytes.new.store.loaded.standing standing in
     let trailer = ap (λ (h : Head). h.trailer) settled.head in
     record {
       front = laid.front;
@@ -81,7 +102,7 @@ returns-clause-passed g c =
     let bin = header_settled p c.settle-store.result c.array_at-bin.result.now c.as_slice-2.result.now 3200 400 c.self.invariant settled c.as_slice-2.ensures.value (omega arith) c.array_at-bin.ensures in
     let joined = joined_whole p c.settle-store.result c.self.invariant settled end c.array_at-text.result.now c.array_at-bin.result.now text bin in
     let more = more_again p.store c.skip_bytes.new.store c.last_bytes.new.store c.skip_bytes.ensures.grown c.last_bytes.ensures.grown in
-    let standing = kept.standing ∙ (more.loaded.standing ∙ c.self.invariant.standing) in
+    let standing : c.settle-store.result.loaded.standing ≡ OnDisk true = kept.standing ∙ ap after_pass (more.loaded.standing ∙ c.self.invariant.standing) in
     rw (← c.self.view_is, c.new.ensures) (record {
       head = settled.head;
       traces = settled.traces;
@@ -93,5 +114,5 @@ returns-clause-passed g c =
       read = settled.begins;
       bytes = sym joined;
       on_disk = ap is_on_disk standing;
-      agreed = ap is_sure standing;
+      reads = ap is_sure standing;
     })

@@ -17,7 +17,7 @@ pub invariant_of-self-in-None : goal.invariant_of-self-in-None
 invariant_of-self-in-None g c =
     let p = c.self.inside in
     let read = c.in-Ok.ensures in
-    passed_tail p c.next_whole-read.new.store c.next_whole-read.new.window _ c.self.invariant read.grown read.next read.within (omega (arith, c.self.invariant.room, c.from.ensures)) (read.kept c.in-None.is)
+    passed_tail p c.next_whole-read.new.store c.next_whole-read.new.window _ c.self.invariant read.grown read.next read.block read.within (omega (arith, c.self.invariant.room, c.from.ensures)) (read.kept c.in-None.is)
 
 pub invariant_of-self-2 : goal.invariant_of-self-2
 invariant_of-self-2 g c =
@@ -28,7 +28,7 @@ invariant_of-self-2 g c =
     let there : n ≤ length c.next_whole-read.new.window.bytes = rw c.in-Some.is at read.there in
     let fits : p.at + n + 3200 * p.store.head.trailer ≤ p.size = rw c.in-Some.is at read.fits in
     let whole : (file : List ℕ) → BeginsWith s.loaded.bytes p.size file → HasLengthAt file p.store.head p.limits (length (traces_of p.store) + 1) p.at n = rw c.in-Some.is at read.whole in
-    passed_on p s c.next_whole-read.new.window n c.saturating_add-self-inside.result c.self.invariant read.grown read.next read.within there fits (λ _. whole)
+    passed_on p s c.next_whole-read.new.window n c.saturating_add-self-inside.result c.self.invariant read.grown read.next read.block read.within there fits (λ _. whole)
 
 pub returns-clause-trace : goal.returns-clause-trace
 returns-clause-trace g c = λ _.
@@ -40,7 +40,7 @@ returns-clause-trace g c = λ _.
     let fits : p.at + n + 3200 * p.store.head.trailer ≤ p.size = rw c.in-Some.is at read.fits in
     let whole : (file : List ℕ) → BeginsWith s.loaded.bytes p.size file → HasLengthAt file p.store.head p.limits (length (traces_of p.store) + 1) p.at n = rw c.in-Some.is at read.whole in
     let some : 0 < n = length_some s.loaded.bytes p.size p.store.head p.limits _ p.at n read.within c.self.invariant.room whole in
-    let after = passed_on p s c.next_whole-read.new.window n c.saturating_add-self-inside.result c.self.invariant read.grown read.next read.within there fits (λ _. whole) in
+    let after = passed_on p s c.next_whole-read.new.window n c.saturating_add-self-inside.result c.self.invariant read.grown read.next read.block read.within there fits (λ _. whole) in
     (trace_shown _ after some).0
 
 pub returns-clause-inside : goal.returns-clause-inside

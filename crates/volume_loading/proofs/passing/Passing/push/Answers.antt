@@ -1,5 +1,6 @@
 use Rattle.std.proofs.Common.{◌≡◌, ◌<◌, ◌≤◌, ◌+◌, ◌∙◌, ℕ, List, [], ◌∷◌, ◌++◌, length, subst, sym, ap, take, drop, arith}
 use Rattle.std.proofs.lemmas.List.{length-take}
+use Rattle.base_file.specs.HeldBytes.{IsOnDisk}
 use Rattle.frame_cut.specs.Cuts.{IsTrace}
 use Rattle.trace_store.specs.Stores.{traces_of}
 use Rattle.volume_loading.proofs.PassingLemmas.{insert_last, passed_over, trace_shown}
@@ -23,6 +24,9 @@ insert-requires-clause-few g c =
     let some : 0 < p.next = omega (arith, asked, length-take p.next p.window.bytes) in
     few (length (traces_of p.store)) p.limits.traces c.traces-most.result c.traces-most.ensures c.traces-most.type_inv (trace_shown p c.self.invariant some).1
 
+pub insert-requires-clause-room : goal.insert-requires-clause-room
+insert-requires-clause-room g c = λ (disk : IsOnDisk c.self.inside.store.loaded.standing). absurd (subst IsOnDisk c.self.invariant.standing disk)
+
 pub insert-requires-clause-whole : goal.insert-requires-clause-whole
 insert-requires-clause-whole g c =
     let p = c.self.inside in
@@ -37,4 +41,4 @@ invariant_of-self-2 g c =
     let some : 0 < p.next = omega (arith, asked, length-take p.next p.window.bytes) in
     let put = c.in_ok-insert.ensures in
     let traces = put.ok ∙ (insert_last (traces_of p.store) c.count-place.result (take p.next (drop p.at p.store.loaded.bytes)) c.count-place.ensures.traces ∙ ap (λ (t : List ℕ). traces_of p.store ++ t ∷ []) (ap (take p.next) (sym c.self.invariant.next.rest))) in
-    passed_over p c.insert.new.self c.skip.new.self c.self.invariant some put.head put.loaded traces c.skip.ensures
+    passed_over p c.insert.new.self c.skip.new.self c.self.invariant some put.head put.loaded traces c.skip.ensures.bytes c.skip.ensures.block

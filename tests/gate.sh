@@ -1,6 +1,7 @@
 #!/usr/bin/env bash
 # The gate: `rt ci`, which proves all and builds the program, and the end-to-end tests, which begin at once beside it on the shipped program: at the
 # end that has to be the built one, byte for byte. What they print comes behind what `rt ci` does, and last, where something failed, the lines that say so.
+# Where a crate was not proved, some lines in front of the first one that says so stand there too, and how much disk and memory are left: a full disk fails a proof.
 # usage: tests/gate.sh BUILT SHIPPED
 # With -m each job has a process group, which is ended whole, and takes interrupts.
 set -um
@@ -23,7 +24,9 @@ ends() {
     cat "$work/told"
     if [ "$status" != 0 ]; then
         echo '== what failed:'
-        grep -hE 'NOT PROVED|NOT REFUSED|BAD EDIT|FAILED|^ERROR |(^|[^0-9])[1-9][0-9]* failed|do not give' "$work/proved" "$work/told" | cut -c 1-300 | tail -n 40
+        grep -hE -B 6 'NOT PROVED' "$work/proved" | cut -c 1-300 | head -n 8
+        grep -hE 'NOT PROVED|NOT REFUSED|NOT TRIED|BAD EDIT|FAILED|^ERROR |(^|[^0-9])[1-9][0-9]* failed|do not give|disk is full|was killed' "$work/proved" "$work/told" | cut -c 1-300 | tail -n 12
+        echo "left: $(df -Pm . | awk 'END { print $4 }') MB of disk, $(awk '/^MemAvailable:/ { print int($2 / 1000) }' /proc/meminfo) MB of memory"
     fi
     exit "$status"
 }

@@ -23,7 +23,7 @@ trace_store    94 1635 its edits are methods of one struct with one invariant, e
 bench_rules    90 1768 the words of edits, queries, conditions and answers, with their small functions, are one vocabulary of one definition
 live_volume    97 2558 its edits and queries are methods of one struct with one invariant
 script_words  140 1990 each word of a script is read by a function of its own
-script_run     88 1789 runs and sessions, in memory, on disk and in place, share their steps
+script_run     88 1848 runs and sessions, in memory, on disk and in place, share their steps
 run_ending    116 1825 where a save may go, how runs, saves, repairs and recoveries end, and what standard error says of each
 window_counts 112 1030 the shapes of a window (an interval, rectangles with and without offsets) share one contract, of short functions
 '

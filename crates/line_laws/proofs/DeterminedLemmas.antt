@@ -1,5 +1,4 @@
 -- Lines that are run twice end the same and print the same.
-use Rattle.std.specs.Prelude.{⊤}
 use Rattle.std.proofs.Common.{◌≡◌, ◌⊎◌, ℕ, ℤ, length, Bool, true, false, List, [], ◌∷◌, ◌++◌, Option, Some, None, Result, Ok, Err, IfOk, refl, sym, subst, ap, ap₂, ◌∙◌, inl, inr}
 use Rattle.std.specs.Prelude.{IsErrAnd, if◌then◌else◌}
 use Rattle.field_map.specs.Pairs.{Pairs}
@@ -30,6 +29,7 @@ use Rattle.script_words.specs.declared.line_fault.LineFault.TheVariants as line_
 use Rattle.script_words.specs.Commands.{IsParsed, line_result}
 use Rattle.script_text.specs.Replies.{Printed, edit_reply, query_reply}
 use Rattle.line_laws.specs.Determined.{IsOfLine, LinesAreDetermined}
+use Rattle.script_run.specs.Causes.{any_cause}
 use Rattle.script_run.specs.Laws.{IsRead}
 use Rattle.script_run.specs.Runs.{tells_samples, asks_for_section, floats_asked, section_asked, IsPrintedBy, IsPrintedIn, IsPrintedOf, CommandStep, ReadStep, LineStep, LineSteps}
 use Rattle.script_run.specs.Sections.{IsSectionPrinted, IsWhole}
@@ -104,10 +104,10 @@ fault_printed : (floats : Option FloatFormat) (fault : AskFault) (p : Printed) �
 fault_printed None fault p is = is
 fault_printed (Some f) fault p is = is
 
-fault_told : (s : State) (query : Query) (fault : AskFault) (p : Printed) → IsPrintedIn s query (Err fault) p → p ≡ query_reply (Err fault)
+fault_told : (s : State) (query : Query) (fault : AskFault) (p : Printed) → IsPrintedIn any_cause s query (Err fault) p → p ≡ query_reply (Err fault)
 fault_told s query fault p is = fault_printed (floats_asked s query) fault p (by (asks_for_section query) is)
   where
-    by : (b : Bool) → IsPrintedBy s (if b then None else None) (floats_asked s query) (Err fault) p → IsPrintedOf (floats_asked s query) (Err fault) p
+    by : (b : Bool) → IsPrintedBy any_cause s (if b then None else None) (floats_asked s query) (Err fault) p → IsPrintedOf (floats_asked s query) (Err fault) p
     by true h = h
     by false h = h
 
@@ -119,14 +119,14 @@ ask_fails : (s : State) (query : Query) (fault : AskFault) (p : Printed) → p �
 ask_fails s query fault p prints (_, (_, inl is)) none = none.1 [] (ap (λ (q : Printed). q.text) prints ∙ ap text_of is)
 ask_fails s query fault p prints (_, (_, inr is)) none = none.2 [] (ap (λ (q : Printed). q.text) prints ∙ ap text_of is)
 
-failed_reply : (s : State) (query : Query) (reply : Reply) (p : Printed) → IsPrintedIn s query reply p → IsErrAnd reply (AskFailsToRead s query) → IsOfLine p → ⊥
+failed_reply : (s : State) (query : Query) (reply : Reply) (p : Printed) → IsPrintedIn any_cause s query reply p → IsErrAnd reply (AskFailsToRead s query) → IsOfLine p → ⊥
 failed_reply s query (Ok a) p is fails none = absurd fails
 failed_reply s query (Err fault) p is fails none = ask_fails s query fault p (fault_told s query fault p is) fails none
 
 -- where samples are not floats it is the answer that is printed
-printed_answer : (s : State) (query : Query) (reply : Reply) (p : Printed) → IsReply s query reply → IsPrintedIn s query reply p → IsOfLine p → IsPrintedIn s query (answer s query) p
-printed_answer s query reply p (inl is) prints none = subst (λ (x : Reply). IsPrintedIn s query x p) is prints
-printed_answer s query reply p (inr (inl (is, may))) prints none = absurd (none.0 (fault_told s query asks.OutOfMemory p (subst (λ (x : Reply). IsPrintedIn s query x p) is prints)))
+printed_answer : (s : State) (query : Query) (reply : Reply) (p : Printed) → IsReply s query reply → IsPrintedIn any_cause s query reply p → IsOfLine p → IsPrintedIn any_cause s query (answer s query) p
+printed_answer s query reply p (inl is) prints none = subst (λ (x : Reply). IsPrintedIn any_cause s query x p) is prints
+printed_answer s query reply p (inr (inl (is, may))) prints none = absurd (none.0 (fault_told s query asks.OutOfMemory p (subst (λ (x : Reply). IsPrintedIn any_cause s query x p) is prints)))
 printed_answer s query reply p (inr (inr fails)) prints none = absurd (failed_reply s query reply p prints fails none)
 
 -- ---- samples of many traces
@@ -145,7 +145,7 @@ same_rows (row ∷ rows) a b (first, rest, (words, are, is), others, joined) (ag
     all ∙ ap₂ (λ (s t : List ℕ). s ++ t) (reads ∙ ap (row_line row.0) (same_words row.1 words says are same) ∙ sym is) (same_rows rows rest left others more) ∙ sym joined
 
 -- none is cut short
-whole_section : (s : State) (section : Section) (p : Printed) → IsSectionPrinted s section p → IsOfLine p → IsWhole s section p
+whole_section : (s : State) (section : Section) (p : Printed) → IsSectionPrinted any_cause s section p → IsOfLine p → IsWhole s section p
 whole_section s section p (inl whole) none = whole
 whole_section s section p (inr short) none = absurd (by short.unread.1)
   where
@@ -165,7 +165,7 @@ same_section s section p q none one other =
     let text : q.text ≡ p.text = other.text ∙ ap (λ (l : List ℕ). section_head (length section.traces) ++ l) rows ∙ sym one.text in
     ap₂ (λ (t : List ℕ) (refused : Bool). let r : Printed = record { text = t; is_refusal = refused } in r) text (other.accepted ∙ sym one.accepted)
 
-same_printed : (s : State) (section : Option Section) (reply : Reply) (p q : Printed) → float_format s.volume.head.format ≡ None → IsPrintedBy s section None reply p → IsPrintedBy s section None reply q
+same_printed : (s : State) (section : Option Section) (reply : Reply) (p q : Printed) → float_format s.volume.head.format ≡ None → IsPrintedBy any_cause s section None reply p → IsPrintedBy any_cause s section None reply q
     → IsOfLine p → IsOfLine q → q ≡ p
 same_printed s None reply p q whole one other none never = other ∙ sym one
 same_printed s (Some section) reply p q whole one other none never = same_section s section p q whole (whole_section s section p one none) (whole_section s section q other never)
@@ -180,44 +180,44 @@ choice_none false o is = refl
 no_floats : (s : State) (query : Query) → float_format s.volume.head.format ≡ None → floats_asked s query ≡ None
 no_floats s query none = choice_none (tells_samples query) (float_format s.volume.head.format) none
 
-same_query : (s : State) (query : Query) (p q : Printed) (r t : Reply) → IsReply s query r → IsPrintedIn s query r p → IsReply s query t → IsPrintedIn s query t q
+same_query : (s : State) (query : Query) (p q : Printed) (r t : Reply) → IsReply s query r → IsPrintedIn any_cause s query r p → IsReply s query t → IsPrintedIn any_cause s query t q
     → IsOfLine p → IsOfLine q → float_format s.volume.head.format ≡ None → q ≡ p
 same_query s query p q r t one prints other writes none never whole =
     let asked : floats_asked s query ≡ None = no_floats s query whole in
     let asks : Option Section = section_asked query (answer s query) in
     same_printed s asks (answer s query) p q whole
-    (subst (λ (o : Option FloatFormat). IsPrintedBy s asks o (answer s query) p) asked (printed_answer s query r p one prints none))
-    (subst (λ (o : Option FloatFormat). IsPrintedBy s asks o (answer s query) q) asked (printed_answer s query t q other writes never))
+    (subst (λ (o : Option FloatFormat). IsPrintedBy any_cause s asks o (answer s query) p) asked (printed_answer s query r p one prints none))
+    (subst (λ (o : Option FloatFormat). IsPrintedBy any_cause s asks o (answer s query) q) asked (printed_answer s query t q other writes never))
     none never
 
 abbrev AreSame : State → (p q : Printed) → (new again : State) → Type 0
 AreSame old p q new again = (again ≡ new) × (float_format old.volume.head.format ≡ None → q ≡ p)
 
-same_command : (old : State) (command : Command) (p q : Printed) (new again : State) → CommandStep ⊤ old command p new → CommandStep ⊤ old command q again → IsOfLine p → IsOfLine q → AreSame old p q new again
+same_command : (old : State) (command : Command) (p q : Printed) (new again : State) → CommandStep any_cause old command p new → CommandStep any_cause old command q again → IsOfLine p → IsOfLine q → AreSame old p q new again
 same_command old (Apply edit) p q new again (r, step, prints, told, _) (s, other, writes, tells, _) none never =
     let both = same_edit (first_refusal old edit) old edit r s new again step other told tells (subst (λ (x : Printed). IsOfLine x) prints none) (subst (λ (x : Printed). IsOfLine x) writes never) in
     (both.0, λ _. writes ∙ ap (λ (x : EditReply). edit_reply x) both.1 ∙ sym prints)
 same_command old (Ask query) p q new again (r, one, prints, same, _, _) (t, other, writes, stays, _, _) none never =
     (stays ∙ sym same, λ whole. same_query old query p q r t one prints other writes none never whole)
 
-same_read : (old : State) (read : Result (Option Command) LineFault) (p q : Printed) (new again : State) → ReadStep ⊤ old read p new → ReadStep ⊤ old read q again → IsOfLine p → IsOfLine q → AreSame old p q new again
+same_read : (old : State) (read : Result (Option Command) LineFault) (p q : Printed) (new again : State) → ReadStep any_cause old read p new → ReadStep any_cause old read q again → IsOfLine p → IsOfLine q → AreSame old p q new again
 same_read old (Ok None) p q new again one other none never = (other.1 ∙ sym one.1, λ _. other.0 ∙ sym one.0)
 same_read old (Ok (Some command)) p q new again one other none never = same_command old command p q new again one other none never
 same_read old (Err fault) p q new again one other none never = (other.1 ∙ sym one.1, λ _. other.0 ∙ sym one.0)
 
 -- a line that is not answered E11 was read as what it gives
 is_read : (old : State) (line : List ℕ) (read : Result (Option Command) LineFault) (p : Printed) (new : State) (floats : Option FloatFormat) (traces : ℕ)
-    → IsParsed floats traces line read → ReadStep ⊤ old read p new → IsOfLine p → read ≡ line_result floats traces line
+    → IsParsed floats traces line read → ReadStep any_cause old read p new → IsOfLine p → read ≡ line_result floats traces line
 is_read old line read p new floats traces (inl is) step none = is
 is_read old line read p new floats traces (inr (is, want)) step none =
-    let out : ReadStep ⊤ old (Err line_faults.OutOfMemory) p new = subst (λ (x : Result (Option Command) LineFault). ReadStep ⊤ old x p new) is step in
+    let out : ReadStep any_cause old (Err line_faults.OutOfMemory) p new = subst (λ (x : Result (Option Command) LineFault). ReadStep any_cause old x p new) is step in
     absurd (none.0 out.0)
 
-same_line : (old : State) (line : List ℕ) (p q : Printed) (new again : State) → LineStep ⊤ old line p new → LineStep ⊤ old line q again → IsOfLine p → IsOfLine q → AreSame old p q new again
+same_line : (old : State) (line : List ℕ) (p q : Printed) (new again : State) → LineStep any_cause old line p new → LineStep any_cause old line q again → IsOfLine p → IsOfLine q → AreSame old p q new again
 same_line old line p q new again (read, parsed, step) (reading, parses, steps) none never =
     let one = is_read old line read p new _ _ parsed step none in
     let other = is_read old line reading q again _ _ parses steps never in
-    same_read old read p q new again step (subst (λ (x : Result (Option Command) LineFault). ReadStep ⊤ old x q again) (other ∙ sym one) steps) none never
+    same_read old read p q new again step (subst (λ (x : Result (Option Command) LineFault). ReadStep any_cause old x q again) (other ∙ sym one) steps) none never
 
 -- ---- all lines
 
@@ -231,5 +231,5 @@ lines_are_determined stay old new again (l ∷ ls) (p ∷ ps) (q ∷ qs) cut (mi
     let one = same_line old l p q mid middle step other of.0 more.0 in
     let alike = line_keeps stay old mid l p cut step in
     let here : IsRead mid = rw (alike.reading, alike.limits) alike.cut in
-    let all = lines_are_determined stay mid new again ls ps qs here rest (subst (λ (x : State). LineSteps ⊤ x ls qs again) one.0 others) of.1 more.1 in
+    let all = lines_are_determined stay mid new again ls ps qs here rest (subst (λ (x : State). LineSteps any_cause x ls qs again) one.0 others) of.1 more.1 in
     (all.0, λ whole. ap₂ (λ (x : Printed) (xs : List Printed). x ∷ xs) (one.1 whole) (all.1 (ap (λ (h : Head). float_format h.format) alike.head ∙ whole)))

@@ -4,6 +4,7 @@ use Rattle.bench_rules.specs.declared.refusal.Refusal.TheVariants.{OutOfMemory, 
 use Rattle.bench_rules.specs.FloatStatistics.{float_format}
 use Rattle.bench_rules.specs.State.{State}
 use Rattle.script_text.specs.Replies.{Printed, edit_reply}
+use Rattle.script_run.specs.Causes.{any_cause}
 use Rattle.script_run.specs.Laws.{IsRead}
 use Rattle.script_run.specs.Runs.{LineSteps}
 
@@ -24,5 +25,5 @@ AreOfLines (p ∷ ps) = IsOfLine p × AreOfLines ps
 -- not floats they print the same.
 abbrev pub LinesAreDetermined : Type 0
 LinesAreDetermined = (old new again : State) (lines : List (List ℕ)) (printed others : List Printed)
-    → IsRead old → LineSteps ⊤ old lines printed new → LineSteps ⊤ old lines others again → AreOfLines printed → AreOfLines others
+    → IsRead old → LineSteps any_cause old lines printed new → LineSteps any_cause old lines others again → AreOfLines printed → AreOfLines others
     → (again ≡ new) × (float_format old.volume.head.format ≡ None → others ≡ printed)

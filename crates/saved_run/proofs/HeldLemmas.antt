@@ -9,6 +9,7 @@ use Rattle.line_texts.specs.Devices.{Device}
 use Rattle.script_text.specs.declared.run_end.RunEnd.{RunEnd}
 use Rattle.script_text.specs.declared.run_end.RunEnd.TheVariants as ends
 use Rattle.script_run.specs.declared.options.Options.{Options}
+use Rattle.script_run.specs.Causes.{Failures}
 use Rattle.script_run.specs.Ends.{Devices, devices, SavesIf}
 use Rattle.run_ending.specs.Standing.{StandsAs}
 use Rattle.run_ending.specs.declared.out_end.OutEnd.{OutEnd}
@@ -30,11 +31,11 @@ all false old new bytes is empty same = let no : false ≡ true = is in absurd c
 placed : (given_bytes : Option (List ℕ)) (bytes : List ℕ) (mode : Option ℕ) (disk : Option Disk) → given_bytes ≡ Some bytes → Stored given_bytes disk (StandsAs Saved mode) → Known disk (IsStored mode bytes)
 placed given_bytes bytes mode disk is stands = subst (λ (o : Option (List ℕ)). Stored o disk (StandsAs Saved mode)) is stands
 
-pub held : (on_disk : Bool) (options : Options) (mode : Option ℕ) (old : Devices) (reader script answers : Device) (refused_growths : ℕ) (end : RunEnd) (ended : OutEnd) (disk : Option Disk)
-    → old.out.bytes ≡ Some [] → ended ≡ Saved → RunsToOut on_disk options mode old reader script answers refused_growths end ended disk → HoldsAll on_disk options mode old reader script answers refused_growths disk
-held on_disk options mode old reader script answers refused_growths end ended disk empty done r = by end (subst (λ (e : OutEnd). RunsToOut on_disk options mode old reader script answers refused_growths end e disk) done r)
+pub held : (on_disk : Bool) (options : Options) (mode : Option ℕ) (old : Devices) (reader script answers : Device) (failures : Failures) (end : RunEnd) (ended : OutEnd) (disk : Option Disk)
+    → old.out.bytes ≡ Some [] → ended ≡ Saved → RunsToOut on_disk options mode old reader script answers failures end ended disk → HoldsAll on_disk options mode old reader script answers failures disk
+held on_disk options mode old reader script answers failures end ended disk empty done r = by end (subst (λ (e : OutEnd). RunsToOut on_disk options mode old reader script answers failures end e disk) done r)
   where
-    by : (end : RunEnd) → RunsToOut on_disk options mode old reader script answers refused_growths end Saved disk → HoldsAll on_disk options mode old reader script answers refused_growths disk
+    by : (end : RunEnd) → RunsToOut on_disk options mode old reader script answers failures end Saved disk → HoldsAll on_disk options mode old reader script answers failures disk
     by (ends.Done refused) r = record {
       refused = refused;
       end = r.runs.0;

@@ -5,6 +5,7 @@ ghost use Rattle.std.specs.Io.Buffered.{writer_contents};
 ghost use Rattle.edit_overlay.specs.Reads.{HaveAgreed};
 ghost use Rattle.safe_save.specs.Saving.{beside_bytes};
 ghost use Rattle.line_texts.specs.Devices.{device_of};
+ghost use Rattle.script_run.specs.Causes.{failures};
 ghost use Rattle.script_run.specs.Ends.{devices};
 ghost use Rattle.script_run.specs.OnDisk.{unread, read_whole, RefusesPass};
 ghost use Rattle.run_ending.specs.declared.out_end.OutEnd.TheVariants.{Saved};
@@ -63,18 +64,21 @@ pub fn run_to_out<R: Read, S: Read, A: Write, F: Folder + Drop>(
     ensures run { RunsToOut false options mode
         (devices (device_of R.remaining reader.old) (device_of S.remaining script.old)
         (device_of A.contents answers.old)
-        (writer_of (writer_contents (option_map beside_bytes) writer)) room.old)
+        (writer_of (writer_contents (option_map beside_bytes) writer))
+        (failures room.old 0))
         (device_of R.remaining reader.new) (device_of S.remaining script.new)
-        (device_of A.contents answers.new) room.new result.end result.out (F.disk result.folder) }
+        (device_of A.contents answers.new) (failures room.new 0) result.end result.out
+        (F.disk result.folder) }
 
     // Where the save is told as done, OUT is the file of what the lines made of the volume.
     ensures saved { writer_contents (option_map beside_bytes) writer ≡ Some [] →
         result.out ≡ Saved → HoldsAll false options mode
         (devices (device_of R.remaining reader.old) (device_of S.remaining script.old)
         (device_of A.contents answers.old)
-        (writer_of (writer_contents (option_map beside_bytes) writer)) room.old)
+        (writer_of (writer_contents (option_map beside_bytes) writer))
+        (failures room.old 0))
         (device_of R.remaining reader.new) (device_of S.remaining script.new)
-        (device_of A.contents answers.new) room.new (F.disk result.folder) }
+        (device_of A.contents answers.new) (failures room.new 0) (F.disk result.folder) }
 {
     let mut out = Sink::new(writer);
     let end = run(room, reader, script, answers, &mut out, options, notes);
@@ -100,18 +104,21 @@ pub fn run_on_disk_to_out<S: Read, A: Write, F: Folder + Drop>(
         RunsToOut true options mode
         (devices (unread volume.loaded) (device_of S.remaining script.old)
         (device_of A.contents answers.old)
-        (writer_of (writer_contents (option_map beside_bytes) writer)) room.old)
+        (writer_of (writer_contents (option_map beside_bytes) writer))
+        (failures room.old 0))
         read_whole (device_of S.remaining script.new)
-        (device_of A.contents answers.new) room.new result.run.end result.out
-        (F.disk result.folder)) }
+        (device_of A.contents answers.new) (failures room.new volume.reads.failures)
+        result.run.end result.out (F.disk result.folder)) }
     ensures saved { IfOk result.run.volume (λ volume. HaveAgreed volume.reads →
         writer_contents (option_map beside_bytes) writer ≡ Some [] → result.out ≡ Saved →
         HoldsAll true options mode
         (devices (unread volume.loaded) (device_of S.remaining script.old)
         (device_of A.contents answers.old)
-        (writer_of (writer_contents (option_map beside_bytes) writer)) room.old)
+        (writer_of (writer_contents (option_map beside_bytes) writer))
+        (failures room.old 0))
         read_whole (device_of S.remaining script.new)
-        (device_of A.contents answers.new) room.new (F.disk result.folder)) }
+        (device_of A.contents answers.new) (failures room.new volume.reads.failures)
+        (F.disk result.folder)) }
     ensures size { IfOk result.run.volume (λ volume. length volume.loaded ≡ size) }
     ensures refused { IfErr result.run.volume (RefusesPass size options
         (device_of S.remaining script.old) (device_of S.remaining script.new)

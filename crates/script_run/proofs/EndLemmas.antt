@@ -20,10 +20,9 @@ use Rattle.script_run.specs.Loading.{Loads, ReadsScript}
 use Rattle.script_text.specs.Replies.{Printed}
 use Rattle.script_words.specs.Words.{script_lines}
 use Rattle.script_run.specs.FromScratch.{ScratchSteps, saved}
-use Rattle.room.specs.Refusals.{WasRefused}
-use Rattle.std.specs.Prelude.{⊤}
+use Rattle.script_run.specs.Causes.{any_cause, causes_in}
 use Rattle.script_run.specs.Runs.{LineStep, LineSteps, RunsWhole, StopsAt, BreaksOff}
-use Rattle.script_run.proofs.WantLemmas.{whatever_cause}
+use Rattle.script_run.proofs.CauseLemmas.{whatever_cause}
 use Rattle.script_run.proofs.ScratchLemmas.{scratch, stays_cut, line_keeps}
 use Rattle.script_run.specs.Ends.{Devices, RefusesLoad, RefusesScript, RunsThrough, Stops, LosesAnswer, IsTold, Runs}
 
@@ -67,11 +66,11 @@ script_end on_disk options old new fault result refuses (inr (written, is, part)
 module _ (stay : StepsStayCut) (on_disk : Bool) (options : Options) (old new : Devices) (start end : State) (script : List ℕ)
     (loaded : Loads old.reader new.reader options.reading options.limits on_disk start) (read : ReadsScript old.script new.script script) where
   -- each line is answered as by what reading the file from scratch gives
-  pub as_from_scratch : (lines : List (List ℕ)) (printed : List Printed) → LineSteps (WasRefused old.refused_growths new.refused_growths) start lines printed end
-      → ScratchSteps (LineStep ⊤) options.reading options.limits on_disk (saved start) lines printed (saved end)
-  as_from_scratch lines printed steps = scratch (LineStep ⊤) (line_keeps stay) options.reading options.limits on_disk start end lines printed loaded.cut loaded.reading_is loaded.limits_are loaded.place_is (whatever_cause (WasRefused old.refused_growths new.refused_growths) start lines printed end steps)
+  pub as_from_scratch : (lines : List (List ℕ)) (printed : List Printed) → LineSteps (causes_in on_disk old.failures new.failures) start lines printed end
+      → ScratchSteps (LineStep any_cause) options.reading options.limits on_disk (saved start) lines printed (saved end)
+  as_from_scratch lines printed steps = scratch (LineStep any_cause) (line_keeps stay) options.reading options.limits on_disk start end lines printed loaded.cut loaded.reading_is loaded.limits_are loaded.place_is (whatever_cause (causes_in on_disk old.failures new.failures) start lines printed end steps)
 
-  unfoldable pub runs_through : (refused : ℕ) → (text : List ℕ) × RunsWhole (WasRefused old.refused_growths new.refused_growths) start script options.stop text refused end × Takes old.answers new.answers text
+  unfoldable pub runs_through : (refused : ℕ) → (text : List ℕ) × RunsWhole (causes_in on_disk old.failures new.failures) start script options.stop text refused end × Takes old.answers new.answers text
       → RunsThrough on_disk options old new refused end
   runs_through refused (text, lines, printed) =
       record {
@@ -81,12 +80,12 @@ module _ (stay : StepsStayCut) (on_disk : Bool) (options : Options) (old new : D
         begins = record { loaded = loaded; read = read };
         lines = lines;
         from_scratch = as_from_scratch (script_lines script) lines.printed lines.steps;
-        cut = stays_cut (LineStep ⊤) (line_keeps stay) options.reading options.limits on_disk start end (script_lines script) lines.printed loaded.cut loaded.reading_is loaded.limits_are (whatever_cause (WasRefused old.refused_growths new.refused_growths) start (script_lines script) lines.printed end lines.steps);
+        cut = stays_cut (LineStep any_cause) (line_keeps stay) options.reading options.limits on_disk start end (script_lines script) lines.printed loaded.cut loaded.reading_is loaded.limits_are (whatever_cause (causes_in on_disk old.failures new.failures) start (script_lines script) lines.printed end lines.steps);
         printed = printed;
       }
 
   pub stops : (line : ℕ) → new.out ≡ old.out
-      → (text : List ℕ) × StopsAt (WasRefused old.refused_growths new.refused_growths) start script line text end × Takes old.answers new.answers text × IsTrue options.stop → Stops on_disk options old new line
+      → (text : List ℕ) × StopsAt (causes_in on_disk old.failures new.failures) start script line text end × Takes old.answers new.answers text × IsTrue options.stop → Stops on_disk options old new line
   stops line unsaved (text, lines, printed, asked) = record {
     start = start;
     end = end;
@@ -101,7 +100,7 @@ module _ (stay : StepsStayCut) (on_disk : Bool) (options : Options) (old new : D
   }
 
   pub loses_answer : (written : ℕ) → new.out ≡ old.out
-      → (text : List ℕ) × (taken : ℕ) × (written ≡ count_in_64_bits taken) × BreaksOff (WasRefused old.refused_growths new.refused_growths) start script options.stop taken text end × TakesPart old.answers new.answers text taken
+      → (text : List ℕ) × (taken : ℕ) × (written ≡ count_in_64_bits taken) × BreaksOff (causes_in on_disk old.failures new.failures) start script options.stop taken text end × TakesPart old.answers new.answers text taken
       → (taken : ℕ) × (written ≡ count_in_64_bits taken) × LosesAnswer on_disk options old new taken
   loses_answer written unsaved (text, taken, told, lines, printed) = (
     taken,

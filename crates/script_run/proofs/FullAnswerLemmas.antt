@@ -1,5 +1,4 @@
 -- No answer of a session has an empty line.
-use Rattle.std.specs.Prelude.{⊤}
 use Rattle.std.proofs.Common.{◌≡◌, ℕ, length, take, List, [], ◌∷◌, Bool, true, false, not, Option, Some, None, Result, Ok, Err, cond, refl, sym, ap, subst, inl, inr}
 use Rattle.std.specs.Prelude.{option_map}
 use Rattle.std.specs.Option.{option_map_or}
@@ -36,6 +35,7 @@ use Rattle.script_text.proofs.SectionLineLemmas.{full_cut, full_section}
 use Rattle.bench_rules.specs.declared.ask_fault.AskFault.TheVariants as asks
 use Rattle.script_text.specs.Replies.{query_reply}
 use Rattle.script_text.proofs.FloatLineLemmas.{float_answers_are_full_lines}
+use Rattle.script_run.specs.Causes.{any_cause}
 use Rattle.script_run.specs.Runs.{ReadStep, IsPrintedBy, IsPrintedOf, floats_asked, section_asked}
 use Rattle.script_run.specs.Sections.{IsSectionPrinted}
 use Rattle.script_words.specs.declared.session_words.SessionWord.{SessionWord}
@@ -114,16 +114,16 @@ asked_full (Some f) (Ok answer) p (inr (inl e)) full = full_by p _ e.1 (reply_fu
 asked_full (Some f) (Ok answer) p (inr (inr e)) full = full_by p _ e.1 full
 
 -- what is printed for samples of many traces
-section_full : (s : State) (section : Section) (p : Printed) → IsSectionPrinted s section p → IsFullLines p.text
+section_full : (s : State) (section : Section) (p : Printed) → IsSectionPrinted any_cause s section p → IsFullLines p.text
 section_full s section p (inl whole) = rw whole.text (full_section (float_format s.volume.head.format) (rows_of s.volume section) whole.lines (length section.traces) whole.rows)
 section_full s section p (inr short) =
     rw short.text (full_cut (float_format s.volume.head.format) (take short.before (rows_of s.volume section)) short.lines (length section.traces) short.fault short.rows)
 
-printed_full : (s : State) (section : Option Section) (o : Option FloatFormat) (reply : Reply) (p : Printed) → IsPrintedBy s section o reply p → IsFullLines (query_reply reply).text → IsFullLines p.text
+printed_full : (s : State) (section : Option Section) (o : Option FloatFormat) (reply : Reply) (p : Printed) → IsPrintedBy any_cause s section o reply p → IsFullLines (query_reply reply).text → IsFullLines p.text
 printed_full s None o reply p is full = asked_full o reply p is full
 printed_full s (Some section) o reply p is full = section_full s section p is
 
-read_full : (old new : State) (read : Result (Option Command) LineFault) (p : Printed) → HasPlainNames old.fields → ReadStep ⊤ old read p new → IsFullLines p.text × HasPlainNames new.fields
+read_full : (old new : State) (read : Result (Option Command) LineFault) (p : Printed) → HasPlainNames old.fields → ReadStep any_cause old read p new → IsFullLines p.text × HasPlainNames new.fields
 read_full old new (Ok None) p h step = (full_by p _ step.0 nothing_full, same_plain old new step.1 h)
 read_full old new (Ok (Some (Apply edit))) p h step =
     (full_by p (edit_reply step.0) step.2 (edit_full step.0), step_plain (first_refusal old edit) old new edit step.0 refl h step.1)
@@ -140,22 +140,22 @@ IsFull p new = IsFullLines p.text × HasPlainNames new.state.fields
 fault_is_full : (old new : Standing) (fault : LineFault) (p : Printed) → HasPlainNames old.state.fields → p ≡ fault_reply fault → new ≡ old → IsFull p new
 fault_is_full old new fault p h is same = (full_by p (fault_reply fault) is (fault_full fault), stands_plain old new same h)
 
-word_full : (word : SessionWord) (old new : Standing) (line : List ℕ) (p : Printed) → HasPlainNames old.state.fields → WordStep ⊤ word old line p new → IsFull p new
+word_full : (word : SessionWord) (old new : Standing) (line : List ℕ) (p : Printed) → HasPlainNames old.state.fields → WordStep any_cause word old line p new → IsFull p new
 word_full Save old new line p h (result, saved, is, same) = (full_by p (session_reply result) is (session_text_full result), same_plain old.state new.state same h)
 word_full SaveWithMore old new line p h step = fault_is_full old new Words p h step.0 step.1
 word_full Other old new line p h (step, out) = read_full old.state new.state step.0 p h step.2
 
-ended_full : (has_end : Bool) (old new : Standing) (text : List ℕ) (p : Printed) → HasPlainNames old.state.fields → EndedStep ⊤ has_end old text p new → IsFull p new
+ended_full : (has_end : Bool) (old new : Standing) (text : List ℕ) (p : Printed) → HasPlainNames old.state.fields → EndedStep any_cause has_end old text p new → IsFull p new
 ended_full false old new text p h step = (full_by p (session_reply (Err CutOff)) step.0 (session_text_full (Err CutOff)), stands_plain old new step.1 h)
 ended_full true old new text p h (inl step) = word_full (session_word_of (without_return text)) old new (without_return text) p h step
 ended_full true old new text p h (inr step) = fault_is_full old new OutOfMemory p h step.0 step.1
 
-answer_full : (old new : Standing) (line : SessionLine) (p : Printed) → HasPlainNames old.state.fields → AnswerStep ⊤ old line p new → IsFull p new
+answer_full : (old new : Standing) (line : SessionLine) (p : Printed) → HasPlainNames old.state.fields → AnswerStep any_cause old line p new → IsFull p new
 answer_full old new line p h (inl step) = fault_is_full old new TooLarge p h step.1 step.2
 answer_full old new line p h (inr (within, step)) = ended_full line.has_end old new line.text p h step
 
 -- each answer of a session is lines none of which is empty, with an empty line behind them
-pub session_full : (old new : Standing) (lines : List SessionLine) (ps : List Printed) → HasPlainNames old.state.fields → SessionSteps ⊤ old lines ps new → AreAnswers ps
+pub session_full : (old new : Standing) (lines : List SessionLine) (ps : List Printed) → HasPlainNames old.state.fields → SessionSteps any_cause old lines ps new → AreAnswers ps
 session_full old new [] [] h steps = tt
 session_full old new [] (p ∷ ps) h steps = absurd steps
 session_full old new (l ∷ ls) [] h steps = absurd steps

@@ -13,5 +13,5 @@ pub mod InPlaceLemmas
 pub mod PlaceLemmas
 mod SectionOutLemmas
 mod SectionAskedLemmas
-pub mod WantLemmas
-pub mod SessionWantLemmas
+pub mod CauseLemmas
+pub mod SessionCauseLemmas

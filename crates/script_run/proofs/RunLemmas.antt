@@ -6,14 +6,14 @@ use Rattle.std.specs.Io.KnownBytes.{Appends}
 use Rattle.std.proofs.lemmas.List.{take_at, length-map}
 use Rattle.std.proofs.lemmas.List.Sums.{sum_by_push}
 use Rattle.std.proofs.lemmas.List.Concat.{flat_map-append}
-use Rattle.room.specs.Refusals.{WasRefused}
 use Rattle.bench_rules.specs.State.{State}
 use Rattle.script_words.specs.Words.{is_line_feed, parts_by_line_feed, script_lines, without_return}
 use Rattle.script_text.specs.Replies.{Printed}
 use Rattle.line_texts.specs.Devices.{Device, Takes, TakesPart, count_in_64_bits}
+use Rattle.script_run.specs.Causes.{Failures, failed_between}
 use Rattle.script_run.specs.Runs.{LineStep, LineSteps, StepsBy, printed_text, refusals, StopsAt, BreaksOff}
 use Rattle.line_texts.proofs.OutLemmas.{takes_more, takes_part_more}
-use Rattle.script_run.proofs.WantLemmas.{refused_within, line_in, lines_in}
+use Rattle.script_run.proofs.CauseLemmas.{between_in, line_in, lines_in}
 
 -- ---- a script has no more lines than bytes
 
@@ -55,26 +55,28 @@ refusals_more ps p = sum_by_push (λ q. cond q.is_refusal 1 0) ps p
 
 -- ---- where a run stands
 
--- the lines before these are run, with what they printed, E11 only where a growth was refused
-pub record SoFar (first count : ℕ) (start : State) (all rest : List (List ℕ)) (stop : Bool) (number refused written : ℕ) (before after : Device) (now : State) : Type 0 where
+-- the lines before these are run, with what they printed, E11 only where a growth was refused, E14 only where a read failed, and no E15
+pub record SoFar (first count : Failures) (start : State) (all rest : List (List ℕ)) (stop : Bool) (number refused written : ℕ) (before after : Device) (now : State) : Type 0 where
   pub done : List (List ℕ)
   pub printed : List Printed
   pub lines : all ≡ done ++ rest
-  pub steps : LineSteps (WasRefused first count) start done printed now
-  pub not_before : first ≤ count
+  pub steps : LineSteps (failed_between first count) start done printed now
+  pub not_before : first.growths ≤ count.growths
+  pub reads_not_before : first.reads ≤ count.reads
   pub number_is : number ≡ length printed
   pub refused_is : refused ≡ refusals printed
   pub written_is : written ≡ count_in_64_bits (length (printed_text printed))
   pub goes_on : IsTrue stop → refused ≡ 0
   pub taken : Takes before after (printed_text printed)
 
-pub none_yet : (first : ℕ) (start : State) (all : List (List ℕ)) (stop : Bool) (before : Device) → Appends before.bytes before.bytes [] → SoFar first first start all all stop 0 0 0 before before start
+pub none_yet : (first : Failures) (start : State) (all : List (List ℕ)) (stop : Bool) (before : Device) → Appends before.bytes before.bytes [] → SoFar first first start all all stop 0 0 0 before before start
 none_yet first start all stop before same = record {
   done = [];
   printed = [];
   lines = refl;
   steps = refl;
   not_before = omega arith;
+  reads_not_before = omega arith;
   number_is = refl;
   refused_is = refl;
   written_is = refl;
@@ -82,14 +84,14 @@ none_yet first start all stop before same = record {
   taken = record { bytes = same; failures = refl };
 }
 
-module _ (first count last : ℕ) (start : State) (all rest : List (List ℕ)) (line : List ℕ) (stop : Bool) (number refused written : ℕ) (before mid : Device) (now next : State) (p : Printed)
+module _ (first count last : Failures) (start : State) (all rest : List (List ℕ)) (line : List ℕ) (stop : Bool) (number refused written : ℕ) (before mid : Device) (now next : State) (p : Printed)
     (so_far : SoFar first count start all (line ∷ rest) stop number refused written before mid now)
-    (never_falls : count ≤ last) (step : LineStep (WasRefused count last) now line p next) where
-  through : LineSteps (WasRefused first last) start (so_far.done ++ line ∷ []) (so_far.printed ++ p ∷ []) next
+    (never_falls : count.growths ≤ last.growths) (reads_never_fall : count.reads ≤ last.reads) (step : LineStep (failed_between count last) now line p next) where
+  through : LineSteps (failed_between first last) start (so_far.done ++ line ∷ []) (so_far.printed ++ p ∷ []) next
   through =
-      steps_more (LineStep (WasRefused first last)) start now next so_far.done line so_far.printed p
-      (lines_in (WasRefused first count) (WasRefused first last) (refused_within first first count last (omega arith) never_falls) start so_far.done so_far.printed now so_far.steps)
-      (line_in (WasRefused count last) (WasRefused first last) (refused_within first count last last so_far.not_before (omega arith)) now line p next step)
+      steps_more (LineStep (failed_between first last)) start now next so_far.done line so_far.printed p
+      (lines_in (failed_between first count) (failed_between first last) (between_in first last first count (omega arith) never_falls (omega arith) reads_never_fall) start so_far.done so_far.printed now so_far.steps)
+      (line_in (failed_between count last) (failed_between first last) (between_in first last count last so_far.not_before (omega arith) so_far.reads_not_before (omega arith)) now line p next step)
 
   whole_is : all ≡ (so_far.done ++ line ∷ []) ++ rest
   whole_is = so_far.lines ∙ sym (append_assoc so_far.done (line ∷ []) rest)
@@ -97,7 +99,7 @@ module _ (first count last : ℕ) (start : State) (all rest : List (List ℕ)) (
   first_are : (n : ℕ) → n ≡ length so_far.printed + 1 → take n all ≡ so_far.done ++ line ∷ []
   first_are n n_is =
       let long : length (so_far.done ++ line ∷ []) ≡ n =
-      omega (arith, length-append so_far.done (line ∷ []), steps-length (LineStep (WasRefused first count)) start now so_far.done so_far.printed so_far.steps) in
+      omega (arith, length-append so_far.done (line ∷ []), steps-length (LineStep (failed_between first count)) start now so_far.done so_far.printed so_far.steps) in
       ap (take n) whole_is ∙ take_at (so_far.done ++ line ∷ []) rest n long
 
   -- a line whose reply is written
@@ -109,6 +111,7 @@ module _ (first count last : ℕ) (start : State) (all rest : List (List ℕ)) (
     lines = whole_is;
     steps = through;
     not_before = omega (arith, so_far.not_before, never_falls);
+    reads_not_before = omega (arith, so_far.reads_not_before, reads_never_fall);
     number_is = omega (arith, so_far.number_is, length-append so_far.printed (p ∷ []));
     refused_is = more_is ∙ ap (λ n. n + cond p.is_refusal 1 0) so_far.refused_is ∙ sym (refusals_more so_far.printed p);
     written_is = omega (arith, told_is, so_far.written_is, ap length (text_more so_far.printed p), length-append (printed_text so_far.printed) p.text);
@@ -118,7 +121,7 @@ module _ (first count last : ℕ) (start : State) (all rest : List (List ℕ)) (
 
   -- a line whose reply is not written whole
   pub breaks_off : (script : List ℕ) (after : Device) (k told : ℕ) → all ≡ script_lines script → TakesPart mid after p.text k → told ≡ count_in_64_bits (written + k)
-      → (text : List ℕ) × (taken : ℕ) × (told ≡ count_in_64_bits taken) × BreaksOff (WasRefused first last) start script stop taken text next × TakesPart before after text taken
+      → (text : List ℕ) × (taken : ℕ) × (told ≡ count_in_64_bits taken) × BreaksOff (failed_between first last) start script stop taken text next × TakesPart before after text taken
   breaks_off script after k told all_is part told_is =
       let text : List ℕ = printed_text (so_far.printed ++ p ∷ []) in
       let taken : ℕ = length (printed_text so_far.printed) + k in
@@ -142,7 +145,7 @@ module _ (first count last : ℕ) (start : State) (all rest : List (List ℕ)) (
 
   -- a refused line at which the run stops
   pub stops : (script : List ℕ) (after : Device) → all ≡ script_lines script → Takes mid after p.text → IsTrue p.is_refusal → IsTrue stop
-      → (text : List ℕ) × StopsAt (WasRefused first last) start script (number + 1) text next × Takes before after text × IsTrue stop
+      → (text : List ℕ) × StopsAt (failed_between first last) start script (number + 1) text next × Takes before after text × IsTrue stop
   stops script after all_is taken refused_is stop_is = (
     printed_text (so_far.printed ++ p ∷ []),
     record {

@@ -1,5 +1,4 @@
 -- Lines are answered as by what reading the file from scratch gives.
-use Rattle.std.specs.Prelude.{⊤}
 use Rattle.std.proofs.Common.{◌≡◌, ℕ, Bool, true, false, List, [], ◌∷◌, ◌++◌, Option, Some, None, Result, Ok, Err, refl, sym, ap, subst, ◌∙◌, inl, inr}
 use Rattle.frame_cut.specs.declared.limits.Limits.{Limits}
 use Rattle.frame_cut.specs.declared.reading.Reading.{Reading}
@@ -16,6 +15,7 @@ use Rattle.script_words.specs.declared.command.Command.{Command}
 use Rattle.script_words.specs.declared.command.Command.TheVariants.{Apply, Ask}
 use Rattle.script_words.specs.declared.line_fault.LineFault.{LineFault}
 use Rattle.script_text.specs.Replies.{Printed}
+use Rattle.script_run.specs.Causes.{any_cause}
 use Rattle.script_run.specs.FromScratch.{saved, ScratchSteps}
 use Rattle.script_run.specs.Laws.{IsRead, IsReload, Replied, Reached, at_start, AddsEdit, AddsLine, LinesAreEdits, LinesFromScratch, ReloadsAsSaved}
 use Rattle.script_run.specs.Runs.{ReadStep, LineStep, LineSteps, StepsBy}
@@ -41,7 +41,7 @@ module _ (start : State) where
   abbrev LeadsTo : State → (Replied → Type 0) → Type 0
   LeadsTo new Added = (all : Replied) × Added all × Steps start all.edits all.replies new
 
-  add_read : (before : Replied) (old new : State) (read : Result (Option Command) LineFault) (p : Printed) → Steps start before.edits before.replies old → ReadStep ⊤ old read p new
+  add_read : (before : Replied) (old new : State) (read : Result (Option Command) LineFault) (p : Printed) → Steps start before.edits before.replies old → ReadStep any_cause old read p new
       → LeadsTo new (AddsEdit read p before)
   add_read before old new (Ok None) p sofar step = (before, refl, subst (λ (s : State). Steps start before.edits before.replies s) (sym step.1) sofar)
   add_read before old new (Ok (Some (Apply edit))) p sofar (reply, step, is, told, want) = (
@@ -52,12 +52,12 @@ module _ (start : State) where
   add_read before old new (Ok (Some (Ask query))) p sofar step = (before, refl, subst (λ (s : State). Steps start before.edits before.replies s) (sym step.3) sofar)
   add_read before old new (Err fault) p sofar step = (before, (step.0, refl), subst (λ (s : State). Steps start before.edits before.replies s) (sym step.1) sofar)
 
-  add_line : (before : Reached) (new : State) (line : List ℕ) (p : Printed) → Steps start before.replied.edits before.replied.replies before.state → LineStep ⊤ before.state line p new
+  add_line : (before : Reached) (new : State) (line : List ℕ) (p : Printed) → Steps start before.replied.edits before.replied.replies before.state → LineStep any_cause before.state line p new
       → (all : Replied) × AddsLine start before line p (record { state = new; replied = all })
   add_line before new line p sofar (read, parsed, step) =
       let one = add_read before.replied before.state new read p sofar step in (one.0, (read, parsed, one.1, one.2))
 
-  pub add_lines : (before : Reached) (new : State) (lines : List (List ℕ)) (ps : List Printed) → Steps start before.replied.edits before.replied.replies before.state → LineSteps ⊤ before.state lines ps new
+  pub add_lines : (before : Reached) (new : State) (lines : List (List ℕ)) (ps : List Printed) → Steps start before.replied.edits before.replied.replies before.state → LineSteps any_cause before.state lines ps new
       → (all : Replied) × StepsBy (AddsLine start) before lines ps (record { state = new; replied = all }) × Steps start all.edits all.replies new
   add_lines before new [] [] sofar h =
       let all : Replied = before.replied in
@@ -79,7 +79,7 @@ lines_are_edits old new lines ps h = add_lines old (at_start old) new lines ps r
 abbrev pub Keeps : {L : Type 0} → (State → L → Printed → State → Type 0) → Type 0
 Keeps {L} Step = (old new : State) (line : L) (p : Printed) → IsRead old → Step old line p new → IsReadAlike old new
 
-pub line_keeps : StepsStayCut → Keeps (LineStep ⊤)
+pub line_keeps : StepsStayCut → Keeps (LineStep any_cause)
 line_keeps stay old new line p cut step =
     let some = add_line old (at_start old) new line p refl step in stay old new some.0.edits some.0.replies cut some.1.3
 
@@ -90,17 +90,17 @@ same_keeps stay old new cut same = stay old new [] [] cut same
 stands_keeps : StepsStayCut → (old new : Standing) → IsRead old.state → new ≡ old → IsReadAlike old.state new.state
 stands_keeps stay old new cut same = same_keeps stay old.state new.state cut (ap (λ (s : Standing). s.state) same)
 
-word_keeps : StepsStayCut → (word : SessionWord) (old new : Standing) (line : List ℕ) (p : Printed) → IsRead old.state → WordStep ⊤ word old line p new → IsReadAlike old.state new.state
+word_keeps : StepsStayCut → (word : SessionWord) (old new : Standing) (line : List ℕ) (p : Printed) → IsRead old.state → WordStep any_cause word old line p new → IsReadAlike old.state new.state
 word_keeps stay Save old new line p cut (result, saved, is, same) = same_keeps stay old.state new.state cut same
 word_keeps stay SaveWithMore old new line p cut step = stands_keeps stay old new cut step.1
 word_keeps stay Other old new line p cut (step, out) = line_keeps stay old.state new.state line p cut step
 
-ended_keeps : StepsStayCut → (has_end : Bool) (old new : Standing) (text : List ℕ) (p : Printed) → IsRead old.state → EndedStep ⊤ has_end old text p new → IsReadAlike old.state new.state
+ended_keeps : StepsStayCut → (has_end : Bool) (old new : Standing) (text : List ℕ) (p : Printed) → IsRead old.state → EndedStep any_cause has_end old text p new → IsReadAlike old.state new.state
 ended_keeps stay false old new text p cut step = stands_keeps stay old new cut step.1
 ended_keeps stay true old new text p cut (inl step) = word_keeps stay (session_word_of (without_return text)) old new (without_return text) p cut step
 ended_keeps stay true old new text p cut (inr step) = stands_keeps stay old new cut step.1
 
-answer_keeps : StepsStayCut → (old new : Standing) (line : SessionLine) (p : Printed) → IsRead old.state → AnswerStep ⊤ old line p new → IsReadAlike old.state new.state
+answer_keeps : StepsStayCut → (old new : Standing) (line : SessionLine) (p : Printed) → IsRead old.state → AnswerStep any_cause old line p new → IsReadAlike old.state new.state
 answer_keeps stay old new line p cut (inl step) = stands_keeps stay old new cut step.2
 answer_keeps stay old new line p cut (inr (within, step)) = ended_keeps stay line.has_end old new line.text p cut step
 
@@ -108,7 +108,7 @@ pub session_keeps : StepsStayCut → Keeps VolumeStep
 session_keeps stay old new line p cut (before, after, (a, step, is)) = answer_keeps stay (standing old before) (standing new after) line a cut step
 
 -- the lines of a session, of which the volume alone is seen
-pub volume_steps : (old new : Standing) (lines : List SessionLine) (ps : List Printed) → SessionSteps ⊤ old lines ps new → StepsBy VolumeStep old.state lines ps new.state
+pub volume_steps : (old new : Standing) (lines : List SessionLine) (ps : List Printed) → SessionSteps any_cause old lines ps new → StepsBy VolumeStep old.state lines ps new.state
 volume_steps old new [] [] h = ap (λ (s : Standing). s.state) h
 volume_steps old new [] (p ∷ ps) h = absurd h
 volume_steps old new (l ∷ ls) [] h = absurd h
@@ -140,7 +140,7 @@ module _ {L : Type 0} (Step : State → L → Printed → State → Type 0) (kee
       stays_cut mid new xs ps (rw (← r, ← l) alike.cut) (alike.reading ∙ r) (alike.limits ∙ l) rest
 
 pub lines_from_scratch : StepsStayCut → LinesFromScratch
-lines_from_scratch stay old new lines ps cut steps = scratch (LineStep ⊤) (line_keeps stay) old.reading old.limits old.on_disk old new lines ps cut refl refl refl steps
+lines_from_scratch stay old new lines ps cut steps = scratch (LineStep any_cause) (line_keeps stay) old.reading old.limits old.on_disk old new lines ps cut refl refl refl steps
 
 -- ---- a load of what was saved
 

@@ -1,5 +1,5 @@
 -- The traces of a section that is answered are there.
-use Rattle.std.proofs.Common.{◌≡◌, ◌∙◌, ℕ, Bool, true, false, List, Option, Some, None, Ok, Err, refl, sym, ap, subst, inl, inr}
+use Rattle.std.proofs.Common.{◌≡◌, ◌∙◌, ℕ, Bool, true, false, List, length, Option, Some, None, Ok, Err, refl, sym, ap, subst, inl, inr}
 use Rattle.std.specs.Prelude.{is_none, not, ◌&&◌, nat_le, IsErrAnd, if◌then◌else◌}
 use Rattle.std.specs.Option.{option_or}
 use Rattle.sample_codes.specs.Formats.{values}
@@ -18,11 +18,14 @@ use Rattle.bench_rules.specs.declared.test.Test.{Test}
 use Rattle.bench_rules.specs.Answer.{answer, FailsToRead, IsReply}
 use Rattle.bench_rules.specs.ChosenQueries.{answer_of_chosen, answer_under, of_range}
 use Rattle.bench_rules.specs.Conditions.{chosen, chosen_among, lacks_values, range_of, tests_of, AreRising}
+use Rattle.bench_rules.specs.Looks.{looks_at_chosen}
 use Rattle.bench_rules.specs.RangeRefusals.{range_refusal}
 use Rattle.bench_rules.specs.Replies.{Reply}
 use Rattle.bench_rules.specs.State.{State}
 use Rattle.bench_rules.proofs.ChosenLemmas.{chosen_rising}
 use Rattle.script_text.specs.Replies.{Printed}
+use Rattle.script_run.specs.Causes.{Causes}
+use Rattle.script_run.specs.LineLooks.{row_looks}
 use Rattle.script_run.specs.Runs.{asks_for_section, section_in, IsPrintedBy, IsPrintedIn}
 
 -- ---- the query that is answered by a section
@@ -107,22 +110,43 @@ module _ (s : State) (c : Chosen) (range : SampleRange) (section : Section) wher
           let same : section.traces ≡ ps = let g : Ok (answers.Section section) ≡ Ok (answers.Section (record { traces = ps; samples = range })) = rw b at f in cc in
           rw (is, a, d, same) refl
 
-  pub answered_rising : Ok (answers.Section section) ≡ answer s (queries.OfChosen c (about.Samples range)) → AreRising 1 (count_of s.volume) section.traces
-  answered_rising e =
+  answered_chosen : Ok (answers.Section section) ≡ answer s (queries.OfChosen c (about.Samples range)) → (range_refusal s.volume c.traces ≡ None) × (chosen s.volume s.fields c ≡ Some section.traces)
+  answered_chosen e =
       let there = in_range c.traces (answer_under s.volume s.fields c.traces (about.Samples range) (tests_of s.fields c.conditions)) e in
-      chosen_rising s c section.traces there.0 (some_chosen (tests_of s.fields c.conditions) refl there.1)
+      (there.0, some_chosen (tests_of s.fields c.conditions) refl there.1)
 
--- so those of a section that is replied are
+-- so those of a section that is replied are the traces that its query chooses
+pub record IsChosen (s : State) (query : Query) (section : Section) : Type 0 where
+  pub c : Chosen
+  pub range : SampleRange
+  pub is : query ≡ queries.OfChosen c (about.Samples range)
+  pub there : range_refusal s.volume c.traces ≡ None
+  pub are : chosen s.volume s.fields c ≡ Some section.traces
+
+replied_chosen : (s : State) (query : Query) (reply : Reply) → asks_for_section query ≡ true → IsReply s query reply → (section : Section) → reply ≡ Ok (answers.Section section) → IsChosen s query section
+replied_chosen s query reply asked (inl is) section same =
+    let of = section_query query asked in
+    let chose = answered_chosen s of.c of.range section (sym same ∙ is ∙ ap (answer s) of.is) in
+    record { c = of.c; range = of.range; is = of.is; there = chose.0; are = chose.1 }
+replied_chosen s query reply asked (inr (inl (is, may))) section same = absurd cc
+replied_chosen s query reply asked (inr (inr fails)) section same = absurd (subst (λ (r : Reply). IsErrAnd r (FailsToRead s query)) same fails)
+
+-- which are there
 pub replied_rising : (s : State) (query : Query) (reply : Reply) → asks_for_section query ≡ true → IsReply s query reply → (section : Section) → reply ≡ Ok (answers.Section section)
     → AreRising 1 (count_of s.volume) section.traces
-replied_rising s query reply asked (inl is) section same =
-    let of = section_query query asked in
-    answered_rising s of.c of.range section (sym same ∙ is ∙ ap (answer s) of.is)
-replied_rising s query reply asked (inr (inl (is, may))) section same = absurd cc
-replied_rising s query reply asked (inr (inr fails)) section same = absurd (subst (λ (r : Reply). IsErrAnd r (FailsToRead s query)) same fails)
+replied_rising s query reply asked is section same =
+    let chose = replied_chosen s query reply asked is section same in
+    chosen_rising s chose.c section.traces chose.there chose.are
+
+-- and which are looked at, once each
+pub replied_rows : (s : State) (query : Query) (reply : Reply) → asks_for_section query ≡ true → IsReply s query reply → (section : Section) → reply ≡ Ok (answers.Section section)
+    → row_looks s query ≡ length section.traces
+replied_rows s query reply asked is section same =
+    let chose = replied_chosen s query reply asked is section same in
+    ap (row_looks s) chose.is ∙ ap (looks_at_chosen (λ n. n)) chose.are
 
 -- what is printed for a section is what is printed for its query
-pub printed_section : (s : State) (query : Query) (reply : Reply) (printed : Printed) → asks_for_section query ≡ true → IsPrintedBy s (section_in reply) None reply printed → IsPrintedIn s query reply printed
-printed_section s query reply printed asked is =
+pub printed_section : (why : Causes) (s : State) (query : Query) (reply : Reply) (printed : Printed) → asks_for_section query ≡ true → IsPrintedBy why s (section_in reply) None reply printed → IsPrintedIn why s query reply printed
+printed_section why s query reply printed asked is =
     let of = section_query query asked in
-    subst (λ (q : Query). IsPrintedIn s q reply printed) (sym of.is) is
+    subst (λ (q : Query). IsPrintedIn why s q reply printed) (sym of.is) is

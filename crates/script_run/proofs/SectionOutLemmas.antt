@@ -24,7 +24,9 @@ use Rattle.script_text.specs.Replies.{Printed}
 use Rattle.script_text.specs.SectionTexts.{section_end, section_head, AreRowTexts}
 use Rattle.line_texts.proofs.OutLemmas.{breaks_first, told_first, told_whole}
 use Rattle.script_text.proofs.SectionLemmas.{breaks_both, goes_both, some_lines}
+use Rattle.script_run.proofs.CauseLemmas.{Follows, cause_in}
 use Rattle.script_run.proofs.TellLemmas.{told_at_last, told_behind}
+use Rattle.script_run.specs.Causes.{Causes, QueryComesOf}
 use Rattle.script_run.specs.Sections.{AreLinesOf, AreRowsOut, IsLineOf, IsRowOut, IsSectionPrinted, IsUntold}
 
 -- the rows of traces
@@ -82,7 +84,7 @@ module _ (s : State) (range : SampleRange) (ps : List ℕ) where
       (part.lines, subst (λ qs. AreLinesOf s range qs part.lines) (sym (part.all ∙ ap (λ qs. part.before ++ qs) none ∙ append-nil part.before)) part.rows, part.out)
 
 module _ (s : State) (section : Section) (old now : Device) (from at : Outgoing) (i : ℕ) (part : RowsBegun s section.samples section.traces old now from at (drop i section.traces)) where
-  module _ (d : ℕ) (next : Device) (below : i < length section.traces) where
+  module _ (A B : Causes) (follows : Follows A B) (d : ℕ) (next : Device) (below : i < length section.traces) where
     abbrev here : ℕ
     here = get_or section.traces i d
 
@@ -92,12 +94,16 @@ module _ (s : State) (section : Section) (old now : Device) (from at : Outgoing)
     abbrev in_front : RowsBegun s section.samples section.traces old now from at (here ∷ behind)
     in_front = subst (λ left. RowsBegun s section.samples section.traces old now from at left) (drop_more section.traces i d below) part
 
-    pushed : (to : Outgoing) (o : Option AskFault) → is_some o ≡ false → IsRowOut s (floats_in s) section.samples here now next at to (Ok o)
+    pushed : (to : Outgoing) (o : Option AskFault) → is_some o ≡ false → IsRowOut A s (floats_in s) section.samples here now next at to (Ok o)
         → RowsBegun s section.samples section.traces old next from to behind
     pushed to None none (text, is, out) = rows_further s section.samples section.traces old now next from at here behind text is in_front to out
     pushed to (Some fault) none row = absurd cc
 
-    refused : (to : Outgoing) (o : Option AskFault) → is_some o ≡ true → IsRowOut s (floats_in s) section.samples here now next at to (Ok o) → AreRowsOut s section old next from to (Ok o)
+    untold_in : (fault : AskFault) → IsUntold A s here fault → IsUntold B s here fault
+    untold_in fault (inl (unread, comes)) = inl (unread, cause_in A B follows _ _ _ comes)
+    untold_in fault (inr none) = inr none
+
+    refused : (to : Outgoing) (o : Option AskFault) → is_some o ≡ true → IsRowOut A s (floats_in s) section.samples here now next at to (Ok o) → AreRowsOut B s section old next from to (Ok o)
     refused to None some row = absurd cc
     refused to (Some fault) some (untold, same, still) = record {
       before = in_front.before;
@@ -107,43 +113,43 @@ module _ (s : State) (section : Section) (old now : Device) (from at : Outgoing)
       lines = in_front.lines;
       rows = in_front.rows;
       out = rw (same, still) in_front.out;
-      untold = untold;
+      untold = untold_in fault untold;
     }
 
     broken : (to : Outgoing) (r : Result (Option AskFault) WriteFault) (fault : WriteFault) → IsErrAnd r (λ x. x ≡ fault)
-        → IsRowOut s (floats_in s) section.samples here now next at to (Err fault) → AreRowsOut s section old next from to r
+        → IsRowOut A s (floats_in s) section.samples here now next at to (Err fault) → AreRowsOut B s section old next from to r
     broken to (Ok o) fault is row = absurd is
     broken to (Err f) fault is (text, line, breaks) =
-        subst (λ e. AreRowsOut s section old next from to (Err e)) (sym is) (rows_break s section.samples section.traces old now next from at here behind text line in_front fault.written breaks)
+        subst (λ e. AreRowsOut B s section old next from to (Err e)) (sym is) (rows_break s section.samples section.traces old now next from at here behind text line in_front fault.written breaks)
 
   -- the same of a bench that holds this volume, of its floats and of the list of the traces
-  module _ (d : ℕ) (next : Device) (t : State) (is : t ≡ s) (floats : Option FloatFormat) (are : floats ≡ floats_in s) (ps : List ℕ) (same : ps ≡ section.traces) (below : i < length ps) where
+  module _ (A B : Causes) (follows : Follows A B) (d : ℕ) (next : Device) (t : State) (is : t ≡ s) (floats : Option FloatFormat) (are : floats ≡ floats_in s) (ps : List ℕ) (same : ps ≡ section.traces) (below : i < length ps) where
     abbrev RowOut : (to : Outgoing) → Result (Option AskFault) WriteFault → Type 0
-    RowOut to r = IsRowOut t floats section.samples (get_or ps i d) now next at to r
+    RowOut to r = IsRowOut A t floats section.samples (get_or ps i d) now next at to r
 
     few : i < length section.traces
     few = subst (λ qs. i < length qs) same below
 
-    so : (to : Outgoing) (r : Result (Option AskFault) WriteFault) → RowOut to r → IsRowOut s (floats_in s) section.samples (get_or section.traces i d) now next at to r
+    so : (to : Outgoing) (r : Result (Option AskFault) WriteFault) → RowOut to r → IsRowOut A s (floats_in s) section.samples (get_or section.traces i d) now next at to r
     so to r row =
-        subst (λ qs. IsRowOut s (floats_in s) section.samples (get_or qs i d) now next at to r) same
-        (subst (λ f. IsRowOut s f section.samples (get_or ps i d) now next at to r) are (subst (λ u. IsRowOut u floats section.samples (get_or ps i d) now next at to r) is row))
+        subst (λ qs. IsRowOut A s (floats_in s) section.samples (get_or qs i d) now next at to r) same
+        (subst (λ f. IsRowOut A s f section.samples (get_or ps i d) now next at to r) are (subst (λ u. IsRowOut A u floats section.samples (get_or ps i d) now next at to r) is row))
 
     -- the line of the next trace is pushed
     pub row_pushed : (to : Outgoing) (o : Option AskFault) → is_some o ≡ false → RowOut to (Ok o) → RowsBegun s section.samples section.traces old next from to (drop (i + 1) section.traces)
-    row_pushed to o none row = pushed d next few to o none (so to (Ok o) row)
+    row_pushed to o none row = pushed A B follows d next few to o none (so to (Ok o) row)
 
     -- it has none
-    pub row_refused : (to : Outgoing) (o : Option AskFault) → is_some o ≡ true → RowOut to (Ok o) → AreRowsOut s section old next from to (Ok o)
-    row_refused to o some row = refused d next few to o some (so to (Ok o) row)
+    pub row_refused : (to : Outgoing) (o : Option AskFault) → is_some o ≡ true → RowOut to (Ok o) → AreRowsOut B s section old next from to (Ok o)
+    row_refused to o some row = refused A B follows d next few to o some (so to (Ok o) row)
 
     -- a write of it fails
-    pub row_broken : (to : Outgoing) (r : Result (Option AskFault) WriteFault) (fault : WriteFault) → IsErrAnd r (λ x. x ≡ fault) → RowOut to (Err fault) → AreRowsOut s section old next from to r
-    row_broken to r fault is_fault row = broken d next few to r fault is_fault (so to (Err fault) row)
+    pub row_broken : (to : Outgoing) (r : Result (Option AskFault) WriteFault) (fault : WriteFault) → IsErrAnd r (λ x. x ≡ fault) → RowOut to (Err fault) → AreRowsOut B s section old next from to r
+    row_broken to r fault is_fault row = broken A B follows d next few to r fault is_fault (so to (Err fault) row)
 
   -- no trace is left
-  pub rows_all : length section.traces ≤ i → AreRowsOut s section old now from at (Ok None)
-  rows_all past = rows_end s section.samples section.traces old now from at (drop i section.traces) (drop_of_length-le section.traces past) part
+  pub rows_all : (why : Causes) → length section.traces ≤ i → AreRowsOut why s section old now from at (Ok None)
+  rows_all why past = rows_end s section.samples section.traces old now from at (drop i section.traces) (drop_of_length-le section.traces past) part
 
 -- a text that is another
 pub end_out : {text : List ℕ} (old new : Device) (from to : Outgoing) (pushed : List ℕ) → pushed ≡ text → GoesOut old new from to pushed → GoesOut old new from to text
@@ -162,16 +168,16 @@ rising_there k n (q ∷ before) behind p first h = rising_there (q + 1) n before
 is_there : (s : State) (p : ℕ) → 1 ≤ p → p ≤ count_of s.volume → is_trace s.volume p ≡ true
 is_there s p first last = rw (le-leb 1 p first, le-leb p (count_of s.volume) last) refl
 
-module _ (s : State) (section : Section) where
+module _ (why : Causes) (s : State) (section : Section) where
   abbrev count : ℕ
   count = length section.traces
 
   -- all rows are printed
-  pub printed_whole : (lines : List ℕ) → AreLinesOf s section.samples section.traces lines → IsSectionPrinted s section (record { text = section_head count ++ lines; is_refusal = false })
+  pub printed_whole : (lines : List ℕ) → AreLinesOf s section.samples section.traces lines → IsSectionPrinted why s section (record { text = section_head count ++ lines; is_refusal = false })
   printed_whole lines rows = inl (record { lines = lines; rows = rows; text = refl; accepted = refl })
 
   -- the trace that has no line was not read
-  not_read : (before behind : List ℕ) (p : ℕ) (fault : AskFault) → section.traces ≡ before ++ p ∷ behind → AreRising 1 (count_of s.volume) section.traces → IsUntold s p fault → IsReadFault s.on_disk fault
+  not_read : (before behind : List ℕ) (p : ℕ) (fault : AskFault) → section.traces ≡ before ++ p ∷ behind → AreRising 1 (count_of s.volume) section.traces → IsUntold why s p fault → IsReadFault s.on_disk fault × QueryComesOf why (Err fault)
   not_read before behind p fault all rising (inl read) = read
   not_read before behind p fault all rising (inr (is, none)) =
       let there = rising_there 1 (count_of s.volume) before behind p (omega arith) (subst (AreRising 1 (count_of s.volume)) all rising) in
@@ -179,8 +185,8 @@ module _ (s : State) (section : Section) where
 
   -- the first rows are printed
   pub printed_short : (before behind : List ℕ) (p : ℕ) (lines : List ℕ) (fault : AskFault) → section.traces ≡ before ++ p ∷ behind → AreRising 1 (count_of s.volume) section.traces
-      → AreLinesOf s section.samples before lines → IsUntold s p fault
-      → IsSectionPrinted s section (record { text = section_head count ++ lines ++ refused_line (ask_fault_text fault); is_refusal = true })
+      → AreLinesOf s section.samples before lines → IsUntold why s p fault
+      → IsSectionPrinted why s section (record { text = section_head count ++ lines ++ refused_line (ask_fault_text fault); is_refusal = true })
   printed_short before behind p lines fault all rising rows untold =
       let front : take (length before) (rows_of s.volume section) ≡ rows_at s section.samples before =
       ap (λ ps. take (length before) (rows_at s section.samples ps)) all
@@ -193,7 +199,8 @@ module _ (s : State) (section : Section) where
         lines = lines;
         rows = subst (λ rows. AreRowTexts (floats_in s) rows lines) (sym front) rows;
         fault = fault;
-        unread = not_read before behind p fault all rising untold;
+        unread = (not_read before behind p fault all rising untold).0;
+        comes_of = (not_read before behind p fault all rising untold).1;
         text = refl;
         refused = refl;
       })
@@ -213,7 +220,7 @@ module _ (s : State) (section : Section) where
 
   abbrev Part : Device → Device → (behind : List ℕ) → (told : ℕ) → Type 0
   Part old new behind told =
-      (printed : Printed) × IsSectionPrinted s section printed × ((taken : ℕ) × (told ≡ count_in_64_bits taken) × TakesPart old new (printed.text ++ behind) taken)
+      (printed : Printed) × IsSectionPrinted why s section printed × ((taken : ℕ) × (told ≡ count_in_64_bits taken) × TakesPart old new (printed.text ++ behind) taken)
 
   -- in the line that the section begins with
   pub head_fails : (old next : Device) (behind : List ℕ) (told : ℕ) → BreaksOut old next nothing_out (section_head count) told → Part old next behind told
@@ -238,12 +245,12 @@ module _ (s : State) (section : Section) where
         )
 
   -- what is printed where the rows end so
-  pub printed_end : (now next : Device) (at to : Outgoing) (o : Option AskFault) → AreRising 1 (count_of s.volume) section.traces → AreRowsOut s section now next at to (Ok o)
-      → (lines : List ℕ) × IsSectionPrinted s section (record { text = section_head count ++ (lines ++ section_end o); is_refusal = is_some o }) × GoesOut now next at to lines
+  pub printed_end : (now next : Device) (at to : Outgoing) (o : Option AskFault) → AreRising 1 (count_of s.volume) section.traces → AreRowsOut why s section now next at to (Ok o)
+      → (lines : List ℕ) × IsSectionPrinted why s section (record { text = section_head count ++ (lines ++ section_end o); is_refusal = is_some o }) × GoesOut now next at to lines
   printed_end now next at to None rising (lines, rows, out) = (lines, rw (append-nil lines) (printed_whole lines rows), out)
   printed_end now next at to (Some fault) rising st = (
     st.lines,
-    subst (λ (t : List ℕ). IsSectionPrinted s section (record { text = t; is_refusal = true })) (append_assoc (section_head count) st.lines (refused_line (ask_fault_text fault)))
+    subst (λ (t : List ℕ). IsSectionPrinted why s section (record { text = t; is_refusal = true })) (append_assoc (section_head count) st.lines (refused_line (ask_fault_text fault)))
         (printed_short st.before st.behind st.p st.lines fault st.all rising st.rows st.untold),
     st.out,
   )

@@ -15,10 +15,9 @@ use Rattle.script_text.specs.declared.run_end.RunEnd.{RunEnd}
 use Rattle.script_text.specs.declared.run_end.RunEnd.TheVariants as ends
 use Rattle.script_run.specs.declared.session_lines.SessionLines.TheVariants as line_ends
 use Rattle.script_run.specs.Loading.{Loads}
+use Rattle.script_run.specs.Causes.{any_cause, causes_in}
 use Rattle.script_run.specs.Runs.{printed_text}
-use Rattle.room.specs.Refusals.{WasRefused}
-use Rattle.std.specs.Prelude.{⊤}
-use Rattle.script_run.proofs.SessionWantLemmas.{session_whatever_cause}
+use Rattle.script_run.proofs.SessionCauseLemmas.{session_whatever_cause}
 use Rattle.script_run.specs.Ends.{IsTold}
 use Rattle.script_run.proofs.ScratchLemmas.{scratch, stays_cut, session_keeps, volume_steps}
 use Rattle.script_run.proofs.FullAnswerLemmas.{session_full, plain_at_load}
@@ -64,24 +63,24 @@ load_end on_disk options old new fault result refuses (inr (written, is, part)) 
 
 module _ (stay : StepsStayCut) (on_disk : Bool) (options : Options) (old new : SessionDevices) (start : State) (end : Standing)
     (loaded : Loads old.reader new.reader options.reading options.limits on_disk start) (follows : Follows old.out (bytes_of start.volume)) where
-  any_cause : (printed : List Printed) (done : Answered (WasRefused old.refused_growths new.refused_growths) (standing start old.out) end old.script printed)
-      → SessionSteps ⊤ (standing start old.out) done.lines printed end
-  any_cause printed done = session_whatever_cause (WasRefused old.refused_growths new.refused_growths) (standing start old.out) done.lines printed end done.steps
+  as_lines : (printed : List Printed) (done : Answered (causes_in on_disk old.failures new.failures) (standing start old.out) end old.script printed)
+      → SessionSteps any_cause (standing start old.out) done.lines printed end
+  as_lines printed done = session_whatever_cause (causes_in on_disk old.failures new.failures) (standing start old.out) done.lines printed end done.steps
 
-  lines_of : (printed : List Printed) (done : Answered (WasRefused old.refused_growths new.refused_growths) (standing start old.out) end old.script printed) → AnswersLines on_disk options old new done.lines printed end
+  lines_of : (printed : List Printed) (done : Answered (causes_in on_disk old.failures new.failures) (standing start old.out) end old.script printed) → AnswersLines on_disk options old new done.lines printed end
   lines_of printed done = record {
     start = start;
     loaded = loaded;
     follows = follows;
     given = done.given;
     steps = done.steps;
-    from_scratch = scratch VolumeStep (session_keeps stay) options.reading options.limits on_disk start end.state done.lines printed loaded.cut loaded.reading_is loaded.limits_are loaded.place_is (volume_steps (standing start old.out) end done.lines printed (any_cause printed done));
-    cut = stays_cut VolumeStep (session_keeps stay) options.reading options.limits on_disk start end.state done.lines printed loaded.cut loaded.reading_is loaded.limits_are (volume_steps (standing start old.out) end done.lines printed (any_cause printed done));
-    full = session_full (standing start old.out) end done.lines printed (plain_at_load start loaded.fields) (any_cause printed done);
+    from_scratch = scratch VolumeStep (session_keeps stay) options.reading options.limits on_disk start end.state done.lines printed loaded.cut loaded.reading_is loaded.limits_are loaded.place_is (volume_steps (standing start old.out) end done.lines printed (as_lines printed done));
+    cut = stays_cut VolumeStep (session_keeps stay) options.reading options.limits on_disk start end.state done.lines printed loaded.cut loaded.reading_is loaded.limits_are (volume_steps (standing start old.out) end done.lines printed (as_lines printed done));
+    full = session_full (standing start old.out) end done.lines printed (plain_at_load start loaded.fields) (as_lines printed done);
   }
 
   -- no more lines are read, and the line of the refusal is written behind the answers, or a part of it
-  pub loses_script : (middle : Device) (fault : ScriptFault) (written : ℕ) (result : RunEnd) → new.out ≡ end.out → AnswersTo (WasRefused old.refused_growths new.refused_growths) (standing start old.out) end options.stop old.script new.script old.answers middle (line_ends.Script fault written)
+  pub loses_script : (middle : Device) (fault : ScriptFault) (written : ℕ) (result : RunEnd) → new.out ≡ end.out → AnswersTo (causes_in on_disk old.failures new.failures) (standing start old.out) end options.stop old.script new.script old.answers middle (line_ends.Script fault written)
       → ((result ≡ ends.Script fault) × Takes middle new.answers (script_refusal_line fault))
       ⊎ ((more : ℕ) × (told : ℕ) × (result ≡ ends.Answers told) × (told ≡ count_in_64_bits (written + more)) × TakesPart middle new.answers (script_refusal_line fault) more)
       → Session on_disk options old new result
@@ -102,13 +101,13 @@ module _ (stay : StepsStayCut) (on_disk : Bool) (options : Options) (old new : S
       )))
 
   -- the line of the refusal was written whole
-  pub tells_script : (middle : Device) (fault : ScriptFault) (written : ℕ) (told : RunEnd) → new.out ≡ end.out → AnswersTo (WasRefused old.refused_growths new.refused_growths) (standing start old.out) end options.stop old.script new.script old.answers middle (line_ends.Script fault written)
+  pub tells_script : (middle : Device) (fault : ScriptFault) (written : ℕ) (told : RunEnd) → new.out ≡ end.out → AnswersTo (causes_in on_disk old.failures new.failures) (standing start old.out) end options.stop old.script new.script old.answers middle (line_ends.Script fault written)
       → IsTold middle new.answers (script_refusal_line fault) (ends.Script fault) told → ((more : ℕ) → told ≡ ends.Answers more → ⊥) → Session on_disk options old new told
   tells_script middle fault written told unsaved lines (inl whole) none = loses_script middle fault written told unsaved lines (inl whole)
   tells_script middle fault written told unsaved lines (inr (more, is, part)) none = absurd (none more is)
 
   -- .. or a part of it
-  pub tells_part : (middle : Device) (fault : ScriptFault) (written more sum : ℕ) (told : RunEnd) → new.out ≡ end.out → AnswersTo (WasRefused old.refused_growths new.refused_growths) (standing start old.out) end options.stop old.script new.script old.answers middle (line_ends.Script fault written)
+  pub tells_part : (middle : Device) (fault : ScriptFault) (written more sum : ℕ) (told : RunEnd) → new.out ≡ end.out → AnswersTo (causes_in on_disk old.failures new.failures) (standing start old.out) end options.stop old.script new.script old.answers middle (line_ends.Script fault written)
       → IsTold middle new.answers (script_refusal_line fault) (ends.Script fault) told → told ≡ ends.Answers more → sum ≡ count_in_64_bits (written + more) → Session on_disk options old new (ends.Answers sum)
   tells_part middle fault written more sum told unsaved lines (inl whole) is sum_is = absurd (neither fault more (sym whole.0 ∙ is))
     where
@@ -121,7 +120,7 @@ module _ (stay : StepsStayCut) (on_disk : Bool) (options : Options) (old new : S
       one : {a b : ℕ} → ends.Answers a ≡ ends.Answers b → a ≡ b
       one e = cc
 
-  pub goes_through : (refused : ℕ) (is_cut_off : Bool) → AnswersTo (WasRefused old.refused_growths new.refused_growths) (standing start old.out) end options.stop old.script new.script old.answers new.answers (line_ends.Whole refused is_cut_off) → SessionThrough on_disk options old new refused is_cut_off end
+  pub goes_through : (refused : ℕ) (is_cut_off : Bool) → AnswersTo (causes_in on_disk old.failures new.failures) (standing start old.out) end options.stop old.script new.script old.answers new.answers (line_ends.Whole refused is_cut_off) → SessionThrough on_disk options old new refused is_cut_off end
   goes_through refused is_cut_off (printed, done, all, is_cut, same, refused_is, goes_on, taken) = record {
     lines = done.lines;
     printed = printed;
@@ -134,7 +133,7 @@ module _ (stay : StepsStayCut) (on_disk : Bool) (options : Options) (old new : S
     taken = taken;
   }
 
-  pub stops : (line : ℕ) → new.out ≡ end.out → AnswersTo (WasRefused old.refused_growths new.refused_growths) (standing start old.out) end options.stop old.script new.script old.answers new.answers (line_ends.Stopped line) → SessionStops on_disk options old new line
+  pub stops : (line : ℕ) → new.out ≡ end.out → AnswersTo (causes_in on_disk old.failures new.failures) (standing start old.out) end options.stop old.script new.script old.answers new.answers (line_ends.Stopped line) → SessionStops on_disk options old new line
   stops line unsaved (before, last, done, line_is, none_before, refused_last, asked, taken) = record {
     lines = done.lines;
     before = before;
@@ -149,7 +148,7 @@ module _ (stay : StepsStayCut) (on_disk : Bool) (options : Options) (old new : S
     out_is = unsaved;
   }
 
-  pub loses_answer : (written : ℕ) → new.out ≡ end.out → AnswersTo (WasRefused old.refused_growths new.refused_growths) (standing start old.out) end options.stop old.script new.script old.answers new.answers (line_ends.Answers written)
+  pub loses_answer : (written : ℕ) → new.out ≡ end.out → AnswersTo (causes_in on_disk old.failures new.failures) (standing start old.out) end options.stop old.script new.script old.answers new.answers (line_ends.Answers written)
       → (taken : ℕ) × (written ≡ count_in_64_bits taken) × SessionLosesAnswer on_disk options old new taken
   loses_answer written unsaved (before, last, taken, done, told, goes_on, taken_before, part) = (
     taken,

@@ -1,5 +1,4 @@
 -- A session is the run of its lines, with an empty line behind each answer.
-use Rattle.std.specs.Prelude.{⊤}
 use Rattle.std.proofs.Common.{◌≡◌, ◌≤◌, ℕ, List, [], ◌∷◌, length, Bool, true, false, Result, Ok, Err, refl, ap, ap₂, ◌∙◌, inl, inr, arith}
 use Rattle.script_words.specs.declared.line_fault.LineFault.TheVariants.{OutOfMemory}
 use Rattle.refusal_texts.specs.declared.session_fault.SessionFault.{SessionFault}
@@ -9,6 +8,7 @@ use Rattle.script_words.specs.declared.session_words.SessionWord.TheVariants.{Sa
 use Rattle.script_words.specs.SessionWords.{session_word_of}
 use Rattle.script_text.specs.Replies.{Printed, fault_reply, session_reply}
 use Rattle.script_words.specs.Words.{without_return}
+use Rattle.script_run.specs.Causes.{any_cause}
 use Rattle.script_run.specs.Input.{SessionLine}
 use Rattle.script_run.specs.Laws.{SessionIsRun, IsNoSave, OutIsLastSave}
 use Rattle.script_run.specs.Runs.{LineStep}
@@ -23,21 +23,21 @@ use Rattle.script_run.specs.Sessions.{Standing, WordStep, EndedStep, AnswerStep,
 
 -- a line of a script, and nothing saved
 abbrev IsOfRun : Standing → List ℕ → Printed → Standing → Type 0
-IsOfRun old line p new = LineStep ⊤ old.state line p new.state × (new.out ≡ old.out)
+IsOfRun old line p new = LineStep any_cause old.state line p new.state × (new.out ≡ old.out)
 
-of_word : (word : SessionWord) (old new : Standing) (line : List ℕ) (p : Printed) → word ≡ Other → WordStep ⊤ word old line p new → IsOfRun old line p new
+of_word : (word : SessionWord) (old new : Standing) (line : List ℕ) (p : Printed) → word ≡ Other → WordStep any_cause word old line p new → IsOfRun old line p new
 of_word Save old new line p other step = cc
 of_word SaveWithMore old new line p other step = cc
 of_word Other old new line p other step = step
 
 of_end : (has_end : Bool) (old new : Standing) (text : List ℕ) (p : Printed) → has_end ≡ true → session_word_of (without_return text) ≡ Other → (p ≡ fault_reply OutOfMemory → ⊥)
-    → EndedStep ⊤ has_end old text p new → IsOfRun old (without_return text) p new
+    → EndedStep any_cause has_end old text p new → IsOfRun old (without_return text) p new
 of_end false old new text p there other some step = cc
 of_end true old new text p there other some (inl step) = of_word (session_word_of (without_return text)) old new (without_return text) p other step
 of_end true old new text p there other some (inr step) = absurd (some step.0)
 
 one_line : (old new : Standing) (line : SessionLine) (p answer : Printed) → length line.text ≤ 16777216 → line.has_end ≡ true → session_word_of (without_return line.text) ≡ Other
-    → (p ≡ with_empty_line (fault_reply OutOfMemory) → ⊥) → p ≡ with_empty_line answer → AnswerStep ⊤ old line answer new → IsOfRun old (without_return line.text) answer new
+    → (p ≡ with_empty_line (fault_reply OutOfMemory) → ⊥) → p ≡ with_empty_line answer → AnswerStep any_cause old line answer new → IsOfRun old (without_return line.text) answer new
 one_line old new line p answer within there other some is (inl step) = absurd (omega (arith, within, step.0))
 one_line old new line p answer within there other some is (inr (_, step)) =
     of_end line.has_end old new line.text answer there other (λ e. some (is ∙ ap with_empty_line e)) step
@@ -81,7 +81,7 @@ kept_by_save (Itself loaded written was_stopped d) (Itself again more is_stopped
     let failed = fails attempt (length bytes) fault is in absurd (none failed.0 failed.1)
 
 kept_by_word : (word : SessionWord) (old new : Standing) (line : List ℕ) (p answer : Printed) → IsNoSave p → p ≡ with_empty_line answer
-    → WordStep ⊤ word old line answer new → new.out ≡ old.out
+    → WordStep any_cause word old line answer new → new.out ≡ old.out
 kept_by_word Save old new line p answer none is (Ok bytes, saved, told, same) = absurd (none.0 bytes (is ∙ ap with_empty_line told))
 kept_by_word Save old new line p answer none is (Err fault, saved, told, same) =
     kept_by_save old.out new.out (bytes_of old.state.volume) fault (λ taken failed. none.1 taken (is ∙ ap with_empty_line (told ∙ ap (λ (f : SessionFault). session_reply (Err f)) failed))) saved
@@ -89,13 +89,13 @@ kept_by_word SaveWithMore old new line p answer none is step = ap (λ (s : Stand
 kept_by_word Other old new line p answer none is step = step.1
 
 kept_by_end : (has_end : Bool) (old new : Standing) (text : List ℕ) (p answer : Printed) → IsNoSave p → p ≡ with_empty_line answer
-    → EndedStep ⊤ has_end old text answer new → new.out ≡ old.out
+    → EndedStep any_cause has_end old text answer new → new.out ≡ old.out
 kept_by_end false old new text p answer none is step = ap (λ (s : Standing). s.out) step.1
 kept_by_end true old new text p answer none is (inl step) = kept_by_word (session_word_of (without_return text)) old new (without_return text) p answer none is step
 kept_by_end true old new text p answer none is (inr step) = ap (λ (s : Standing). s.out) step.1
 
 kept_by_line : (old new : Standing) (line : SessionLine) (p answer : Printed) → IsNoSave p → p ≡ with_empty_line answer
-    → AnswerStep ⊤ old line answer new → new.out ≡ old.out
+    → AnswerStep any_cause old line answer new → new.out ≡ old.out
 kept_by_line old new line p answer none is (inl step) = ap (λ (s : Standing). s.out) step.2
 kept_by_line old new line p answer none is (inr (_, step)) = kept_by_end line.has_end old new line.text p answer none is step
 

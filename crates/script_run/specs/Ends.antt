@@ -1,5 +1,5 @@
 -- How a run ends, and what the readers and writers told.
-use Rattle.std.specs.Prelude.{◌≡◌, ◌⊎◌, ◌<◌, ⊤, ℕ, ◌+◌, MatchOption, Bool, true, false, IsTrue, List, [], ◌∷◌, ◌++◌, length, take}
+use Rattle.std.specs.Prelude.{◌≡◌, ◌⊎◌, ◌<◌, ℕ, ◌+◌, MatchOption, Bool, true, false, IsTrue, List, [], ◌∷◌, ◌++◌, length, take}
 use Rattle.frame_cut.specs.declared.load_fault.LoadFault.{LoadFault}
 use Rattle.frame_cut.specs.declared.load_fault.LoadFault.TheVariants as load_faults
 use Rattle.std.specs.Io.KnownBytes.{Appends}
@@ -17,20 +17,22 @@ use Rattle.line_texts.specs.Devices.{Device, Takes, TakesPart, count_in_64_bits}
 use Rattle.script_run.specs.Loading.{Loads, IsLoadRefused, ReadsScript, IsScriptRefused}
 use Rattle.refusal_texts.specs.RefusalTexts.{load_refusal_line, script_refusal_line}
 use Rattle.script_words.specs.Words.{script_lines}
+use Rattle.script_run.specs.Causes.{Causes, Failures, ReadComesOf, any_cause, causes_in}
 use Rattle.script_run.specs.FromScratch.{ScratchSteps, saved}
 use Rattle.script_run.specs.Runs.{LineStep, RunsWhole, StopsAt, BreaksOff}
 
--- the readers of the volume and of the script, the writers of the answers and of the saved volume, and how often a growth was refused
+-- the readers of the volume and of the script, the writers of the answers and of the saved volume, and how often a growth was refused and a read of the loaded
+-- bytes failed
 pub record Devices : Type 0 where
   pub reader : Device
   pub script : Device
   pub answers : Device
   pub out : Device
-  pub refused_growths : ℕ
+  pub failures : Failures
 
--- the four devices of a run, and how often a growth was refused
-abbrev pub devices : Device → Device → Device → Device → ℕ → Devices
-devices reader script answers out refused_growths = record { reader = reader; script = script; answers = answers; out = out; refused_growths = refused_growths }
+-- the four devices of a run, and these counts
+abbrev pub devices : Device → Device → Device → Device → Failures → Devices
+devices reader script answers out failures = record { reader = reader; script = script; answers = answers; out = out; failures = failures }
 
 -- the volume is loaded, then the script is read whole
 pub record Begins (on_disk : Bool) (options : Options) (old new : Devices) (start : State) (script : List ℕ) : Type 0 where
@@ -42,7 +44,7 @@ pub record RefusesLoad (options : Options) (old new : Devices) (fault : LoadFaul
   pub refused : IsLoadRefused old.reader new.reader options.reading options.limits fault
   pub unread : new.script ≡ old.script
   pub unsaved : new.out ≡ old.out
-  pub memory : fault ≡ load_faults.OutOfMemory → WasRefused old.refused_growths new.refused_growths
+  pub memory : fault ≡ load_faults.OutOfMemory → WasRefused old.failures.growths new.failures.growths
 
 -- the volume is loaded and the script refused, with P03 only where a growth was refused: nothing is saved
 pub record RefusesScript (on_disk : Bool) (options : Options) (old new : Devices) (fault : ScriptFault) : Type 0 where
@@ -50,17 +52,17 @@ pub record RefusesScript (on_disk : Bool) (options : Options) (old new : Devices
   pub loaded : Loads old.reader new.reader options.reading options.limits on_disk start
   pub refused : IsScriptRefused old.script new.script fault
   pub unsaved : new.out ≡ old.out
-  pub memory : fault ≡ script_faults.OutOfMemory → WasRefused old.refused_growths new.refused_growths
+  pub memory : fault ≡ script_faults.OutOfMemory → WasRefused old.failures.growths new.failures.growths
 
--- all lines are run, with so many refused, E11 only where a growth was refused, and the writer of the answers takes what they print; what is held then is the cut of its own bytes,
--- so that the file which a save writes is accepted, and loaded as what is held
+-- all lines are run, with so many refused, E11 only where a growth was refused, E14 only where a read failed, and never E15, and the writer of the answers
+-- takes what they print; what is held then is the cut of its own bytes, so that the file which a save writes is accepted, and loaded as what is held
 pub record RunsThrough (on_disk : Bool) (options : Options) (old new : Devices) (refused : ℕ) (end : State) : Type 0 where
   pub start : State
   pub script : List ℕ
   pub text : List ℕ
   pub begins : Begins on_disk options old new start script
-  pub lines : RunsWhole (WasRefused old.refused_growths new.refused_growths) start script options.stop text refused end
-  pub from_scratch : ScratchSteps (LineStep ⊤) options.reading options.limits on_disk (saved start) (script_lines script) lines.printed (saved end)
+  pub lines : RunsWhole (causes_in on_disk old.failures new.failures) start script options.stop text refused end
+  pub from_scratch : ScratchSteps (LineStep any_cause) options.reading options.limits on_disk (saved start) (script_lines script) lines.printed (saved end)
   pub cut : IsCut (bytes_of end.volume) options.reading options.limits end.volume
   pub printed : Takes old.answers new.answers text
 
@@ -72,8 +74,8 @@ pub record Stops (on_disk : Bool) (options : Options) (old new : Devices) (line 
   pub text : List ℕ
   pub begins : Begins on_disk options old new start script
   pub asked : IsTrue options.stop
-  pub lines : StopsAt (WasRefused old.refused_growths new.refused_growths) start script line text end
-  pub from_scratch : ScratchSteps (LineStep ⊤) options.reading options.limits on_disk (saved start) (take line (script_lines script)) (lines.before ++ lines.last ∷ []) (saved end)
+  pub lines : StopsAt (causes_in on_disk old.failures new.failures) start script line text end
+  pub from_scratch : ScratchSteps (LineStep any_cause) options.reading options.limits on_disk (saved start) (take line (script_lines script)) (lines.before ++ lines.last ∷ []) (saved end)
   pub printed : Takes old.answers new.answers text
   pub unsaved : new.out ≡ old.out
 
@@ -85,8 +87,8 @@ pub record LosesAnswer (on_disk : Bool) (options : Options) (old new : Devices) 
   pub script : List ℕ
   pub text : List ℕ
   pub begins : Begins on_disk options old new start script
-  pub lines : BreaksOff (WasRefused old.refused_growths new.refused_growths) start script options.stop taken text end
-  pub from_scratch : ScratchSteps (LineStep ⊤) options.reading options.limits on_disk (saved start) (take (length lines.before + 1) (script_lines script)) (lines.before ++ lines.last ∷ []) (saved end)
+  pub lines : BreaksOff (causes_in on_disk old.failures new.failures) start script options.stop taken text end
+  pub from_scratch : ScratchSteps (LineStep any_cause) options.reading options.limits on_disk (saved start) (take (length lines.before + 1) (script_lines script)) (lines.before ++ lines.last ∷ []) (saved end)
   pub printed : TakesPart old.answers new.answers text taken
   pub unsaved : new.out ≡ old.out
 
@@ -96,10 +98,10 @@ pub record TakesFirst (old new : Device) (text : List ℕ) (written : ℕ) : Typ
   pub short : written < length text
   pub failures : new.failures ≡ old.failures
 
--- a save that failed: the writer took the first of the volume's bytes, and then a write failed, or on disk a read of the loaded bytes
-abbrev pub SavesPart : Bool → Device → Device → List ℕ → SaveFault → Type 0
-SavesPart on_disk old new bytes fault =
-    MatchOption fault.read (TakesPart old new bytes fault.written) (λ _. IsTrue on_disk × TakesFirst old new bytes fault.written)
+-- a save that failed: the writer took the first of the volume's bytes, and then a write failed, or on disk, for these causes alone, a read of the loaded bytes
+abbrev pub SavesPart : Causes → Bool → Device → Device → List ℕ → SaveFault → Type 0
+SavesPart why on_disk old new bytes fault =
+    MatchOption fault.read (TakesPart old new bytes fault.written) (λ read. IsTrue on_disk × ReadComesOf why read × TakesFirst old new bytes fault.written)
 
 -- where it is asked for, the writer takes the volume's bytes; else nothing is saved
 abbrev pub SavesIf : Bool → Device → Device → List ℕ → Type 0
@@ -125,4 +127,4 @@ Runs on_disk options old new (ends.Answers written) =
 Runs on_disk options old new (ends.SaveAtEnd refused) = ⊥
 Runs on_disk options old new (ends.Save fault) =
     (refused : ℕ) × (end : State) × RunsThrough on_disk options old new refused end × IsTrue options.save
-    × SavesPart on_disk old.out new.out (bytes_of end.volume) fault
+    × SavesPart (causes_in on_disk old.failures new.failures) on_disk old.out new.out (bytes_of end.volume) fault

@@ -12,6 +12,7 @@ use Rattle.script_text.specs.declared.run_end.RunEnd.TheVariants as ends
 use Rattle.script_run.specs.declared.options.Options.{Options}
 use Rattle.edit_pieces.specs.declared.repaired.Repaired.{Repaired}
 use Rattle.edit_pieces.specs.declared.repaired.Repaired.TheVariants.{NotBegun, Saved, Unfit, Unsettled, Failed}
+use Rattle.script_run.specs.Causes.{Failures}
 use Rattle.script_run.specs.Ends.{Devices, devices, Runs, RunsThrough}
 use Rattle.script_run.specs.OnDisk.{unread}
 
@@ -51,9 +52,9 @@ IsCauseOf (Unfit why) disk edits = ⊤
 IsCauseOf (Unsettled error) disk edits = disk ≡ true
 IsCauseOf (Failed error) disk edits = (disk ≡ true) ⊎ (edits ≡ true)
 
--- the reader of the volume, that of the script and the writer of the answers, and how often memory was refused; nothing else is written
-abbrev pub reading_devices : Device → Device → Device → ℕ → Devices
-reading_devices reader script answers refused_growths = devices reader script answers (unread []) refused_growths
+-- the reader of the volume, that of the script and the writer of the answers, and how often a growth was refused and a read failed; nothing else is written
+abbrev pub reading_devices : Device → Device → Device → Failures → Devices
+reading_devices reader script answers failures = devices reader script answers (unread []) failures
 
 -- all lines were run: the edits make of the bytes that were loaded those that are held at the end
 abbrev pub RepairsThrough : Bool → Options → Devices → Devices → (refused : ℕ) → Repaired → Option Disk → Option Disk → Type 0

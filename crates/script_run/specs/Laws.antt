@@ -18,6 +18,7 @@ use Rattle.refusal_texts.specs.declared.session_fault.SessionFault.TheVariants.{
 use Rattle.script_text.specs.Replies.{Printed, edit_reply, fault_reply, session_reply}
 use Rattle.script_words.specs.Commands.{IsParsed}
 use Rattle.script_words.specs.Words.{without_return}
+use Rattle.script_run.specs.Causes.{any_cause}
 use Rattle.script_run.specs.FromScratch.{ScratchSteps, saved}
 use Rattle.script_run.specs.Runs.{LineStep, LineSteps, StepsBy}
 use Rattle.script_words.specs.declared.session_words.SessionWord.TheVariants.{Other}
@@ -69,13 +70,13 @@ AreEditsOf old lines printed all new = StepsBy (AddsLine old) (at_start old) lin
 
 -- what lines do to a volume is what their edits do, one after another, each with the reply that is printed
 abbrev pub LinesAreEdits : Type 0
-LinesAreEdits = (old new : State) (lines : List (List ℕ)) (printed : List Printed) → LineSteps ⊤ old lines printed new
+LinesAreEdits = (old new : State) (lines : List (List ℕ)) (printed : List Printed) → LineSteps any_cause old lines printed new
     → (all : Replied) × AreEditsOf old lines printed all new × Steps old all.edits all.replies new
 
 -- each line of a script prints what a load of the bytes that a save before it writes answers, and leaves the bytes that it then saves
 abbrev pub LinesFromScratch : Type 0
-LinesFromScratch = (old new : State) (lines : List (List ℕ)) (printed : List Printed) → IsRead old → LineSteps ⊤ old lines printed new
-    → ScratchSteps (LineStep ⊤) old.reading old.limits old.on_disk (saved old) lines printed (saved new)
+LinesFromScratch = (old new : State) (lines : List (List ℕ)) (printed : List Printed) → IsRead old → LineSteps any_cause old lines printed new
+    → ScratchSteps (LineStep any_cause) old.reading old.limits old.on_disk (saved old) lines printed (saved new)
 
 -- what a load of the bytes that are saved behind the lines holds is the volume that was saved, and so every query has the answer that it had
 abbrev pub IsReload : State → State → Type 0
@@ -83,7 +84,7 @@ IsReload new again = (again.volume ≡ new.volume) × ((query : Query) → answe
 
 -- the bytes that are saved behind the lines are a file that is accepted, as the first was read, and a load of them is such a reload
 abbrev pub ReloadsAsSaved : Type 0
-ReloadsAsSaved = (old new : State) (lines : List (List ℕ)) (printed : List Printed) → IsRead old → LineSteps ⊤ old lines printed new
+ReloadsAsSaved = (old new : State) (lines : List (List ℕ)) (printed : List Printed) → IsRead old → LineSteps any_cause old lines printed new
     → IsCut (bytes_of new.volume) old.reading old.limits new.volume
     × ((again : State) → IsRead again → bytes_of again.volume ≡ bytes_of new.volume → again.reading ≡ old.reading → again.limits ≡ old.limits → IsReload new again)
 
@@ -101,9 +102,9 @@ AreOfScript (line ∷ lines) =
 -- a session of lines of a script, none of them answered E11, is the run of the same lines, with an empty line behind each answer, and
 -- saves nothing
 abbrev pub SessionIsRun : Type 0
-SessionIsRun = (old new : Standing) (lines : List SessionLine) (printed : List Printed) → SessionSteps ⊤ old lines printed new
+SessionIsRun = (old new : Standing) (lines : List SessionLine) (printed : List Printed) → SessionSteps any_cause old lines printed new
     → AreOfScript lines → NoneIs (with_empty_line (fault_reply OutOfMemory)) printed
-    → (answers : List Printed) × LineSteps ⊤ old.state (map (λ line. without_return line.text) lines) answers new.state × (printed ≡ map with_empty_line answers)
+    → (answers : List Printed) × LineSteps any_cause old.state (map (λ line. without_return line.text) lines) answers new.state × (printed ≡ map with_empty_line answers)
     × (new.out ≡ old.out)
 
 -- what is printed tells of no save, that was done or that failed at S08
@@ -118,4 +119,4 @@ NoneSaves (p ∷ ps) = IsNoSave p × NoneSaves ps
 
 -- what stands under OUT behind lines none of which is answered as a save stood there before them
 abbrev pub OutIsLastSave : Type 0
-OutIsLastSave = (old new : Standing) (lines : List SessionLine) (printed : List Printed) → SessionSteps ⊤ old lines printed new → NoneSaves printed → new.out ≡ old.out
+OutIsLastSave = (old new : Standing) (lines : List SessionLine) (printed : List Printed) → SessionSteps any_cause old lines printed new → NoneSaves printed → new.out ≡ old.out

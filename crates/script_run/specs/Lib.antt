@@ -1,6 +1,8 @@
+pub mod Causes
 pub mod Runs
 pub mod Loading
 pub mod LineRuns
+pub mod LineLooks
 pub mod Ends
 pub mod FromScratch
 pub mod Laws

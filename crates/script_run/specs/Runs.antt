@@ -1,7 +1,6 @@
 -- A script run over a volume, line by line.
 use Rattle.std.specs.Prelude.{◌≡◌, ◌⊎◌, ℕ, Bool, true, false, if◌then◌else◌, IsTrue, ◌+◌, ◌<◌, ◌≤◌, List, [], ◌∷◌, ◌++◌, length, take, flat_map, count_by, Option, Some, None, Result, Ok, Err, IfOk, ⊤}
 use Rattle.bench_rules.specs.declared.refusal.Refusal.{Refusal}
-use Rattle.bench_rules.specs.declared.refusal.Refusal.TheVariants as edit_refusals
 use Rattle.bench_rules.specs.State.{State}
 use Rattle.bench_rules.specs.Steps.{Step, told_of}
 use Rattle.bench_rules.specs.Answer.{Reply, IsReply}
@@ -27,6 +26,7 @@ use Rattle.script_text.specs.declared.reply.Reply.{Reply as Held}
 use Rattle.script_text.specs.declared.reply.Reply.TheVariants as replies
 use Rattle.script_text.specs.Held.{printed_of}
 use Rattle.bench_rules.specs.declared.section.Section.{Section}
+use Rattle.script_run.specs.Causes.{Causes, EditComesOf, QueryComesOf}
 use Rattle.script_run.specs.Sections.{IsSectionPrinted}
 use Rattle.script_text.specs.Replies.{Printed, nothing, fault_reply, edit_reply, query_reply, float_reply}
 
@@ -73,19 +73,19 @@ section_in reply = None
 abbrev pub section_asked : Query → Reply → Option Section
 section_asked query reply = if asks_for_section query then section_in reply else None
 
--- of a section the samples are printed that its traces have at this volume, else what the reply prints
-abbrev pub IsPrintedBy : State → Option Section → Option FloatFormat → Reply → Printed → Type 0
-IsPrintedBy s None floats reply printed = IsPrintedOf floats reply printed
-IsPrintedBy s (Some section) floats reply printed = IsSectionPrinted s section printed
+-- of a section the samples are printed that its traces have at this volume, up to one that was not read for these causes alone; else what the reply prints
+abbrev pub IsPrintedBy : Causes → State → Option Section → Option FloatFormat → Reply → Printed → Type 0
+IsPrintedBy why s None floats reply printed = IsPrintedOf floats reply printed
+IsPrintedBy why s (Some section) floats reply printed = IsSectionPrinted why s section printed
 
 -- what the reply to a query prints at this volume
-abbrev pub IsPrintedIn : State → Query → Reply → Printed → Type 0
-IsPrintedIn s query reply printed = IsPrintedBy s (section_asked query reply) (floats_asked s query) reply printed
+abbrev pub IsPrintedIn : Causes → State → Query → Reply → Printed → Type 0
+IsPrintedIn why s query reply printed = IsPrintedBy why s (section_asked query reply) (floats_asked s query) reply printed
 
 -- what a reply that is held prints at this volume; of a section its samples too
-abbrev pub Prints : State → Held → Printed → Type 0
-Prints s (replies.Section section) printed = IsSectionPrinted s section printed
-Prints s reply printed = printed ≡ printed_of reply
+abbrev pub Prints : Causes → State → Held → Printed → Type 0
+Prints why s (replies.Section section) printed = IsSectionPrinted why s section printed
+Prints why s reply printed = printed ≡ printed_of reply
 
 -- the traces of a section that is held are there
 abbrev pub HasTraces : State → Held → Type 0
@@ -98,23 +98,23 @@ abbrev pub LacksWords : Query → Reply → Printed → Type 0
 LacksWords query (Ok answer) printed = (asks_for_section query ≡ false) × IsTrue printed.is_refusal
 LacksWords query (Err fault) printed = ⊥
 
--- each of these may tell of want of memory (E11) for this cause alone
-module _ (Cause : Type 0) where
+-- each of these may tell of want of memory (E11), of a read that failed (E14) and of a file that has changed (E15) for these causes alone
+module _ (why : Causes) where
   -- a command with what it prints: an edit is one step, and tells of how many traces it was where it is one of chosen traces under
   -- conditions; a query changes nothing
   abbrev pub CommandStep : State → Command → Printed → State → Type 0
   CommandStep old (Apply edit) printed new =
       (reply : Result (Option ℕ) Refusal) × Step old edit reply new × (printed ≡ edit_reply reply) × IfOk reply (λ told. told ≡ told_of old edit)
-      × (reply ≡ Err edit_refusals.OutOfMemory → Cause)
+      × EditComesOf why reply
   CommandStep old (Ask query) printed new =
-      (reply : Reply) × IsReply old query reply × IsPrintedIn old query reply printed × (new ≡ old)
-      × (reply ≡ Err OutOfMemory → Cause) × (LacksWords query reply printed → Cause)
+      (reply : Reply) × IsReply old query reply × IsPrintedIn why old query reply printed × (new ≡ old)
+      × QueryComesOf why reply × (LacksWords query reply printed → why.memory)
 
   -- a line that was read, with what it prints
   abbrev pub ReadStep : State → Result (Option Command) LineFault → Printed → State → Type 0
   ReadStep old (Ok None) printed new = (printed ≡ nothing) × (new ≡ old)
   ReadStep old (Ok (Some command)) printed new = CommandStep old command printed new
-  ReadStep old (Err fault) printed new = (printed ≡ fault_reply fault) × (new ≡ old) × (fault ≡ line_faults.OutOfMemory → Cause)
+  ReadStep old (Err fault) printed new = (printed ≡ fault_reply fault) × (new ≡ old) × (fault ≡ line_faults.OutOfMemory → why.memory)
 
   -- a line with what it prints
   abbrev pub LineStep : State → List ℕ → Printed → State → Type 0
@@ -131,9 +131,9 @@ module _ {S L : Type 0} where
   StepsBy step old (line ∷ lines) [] new = ⊥
   StepsBy step old (line ∷ lines) (p ∷ ps) new = (mid : S) × step old line p mid × StepsBy step mid lines ps new
 
--- the lines one after another, with what each prints, E11 for this cause alone
-abbrev pub LineSteps : Type 0 → State → List (List ℕ) → List Printed → State → Type 0
-LineSteps Cause old lines printed new = StepsBy (LineStep Cause) old lines printed new
+-- the lines one after another, with what each prints, E11, E14 and E15 for these causes alone
+abbrev pub LineSteps : Causes → State → List (List ℕ) → List Printed → State → Type 0
+LineSteps why old lines printed new = StepsBy (LineStep why) old lines printed new
 
 -- all that the lines print
 abbrev pub printed_text : List Printed → List ℕ
@@ -143,29 +143,29 @@ printed_text ps = flat_map (λ p. p.text) ps
 abbrev pub refusals : List Printed → ℕ
 refusals ps = count_by (λ p. p.is_refusal) ps
 
--- the whole script is run: what it prints, E11 for this cause alone, and how many of its lines are refused; none, if a refusal stops it
-pub record RunsWhole (Cause : Type 0) (old : State) (script : List ℕ) (stop : Bool) (text : List ℕ) (number : ℕ) (new : State) : Type 0 where
+-- the whole script is run: what it prints, E11, E14 and E15 for these causes alone, and how many of its lines are refused; none, if a refusal stops it
+pub record RunsWhole (why : Causes) (old : State) (script : List ℕ) (stop : Bool) (text : List ℕ) (number : ℕ) (new : State) : Type 0 where
   pub printed : List Printed
-  pub steps : LineSteps Cause old (script_lines script) printed new
+  pub steps : LineSteps why old (script_lines script) printed new
   pub text_is : text ≡ printed_text printed
   pub number_is : number ≡ refusals printed
   pub goes_on : IsTrue stop → number ≡ 0
 
--- the script is run up to this line, counted from 1, which is the first that is refused; E11 for this cause alone
-pub record StopsAt (Cause : Type 0) (old : State) (script : List ℕ) (line : ℕ) (text : List ℕ) (new : State) : Type 0 where
+-- the script is run up to this line, counted from 1, which is the first that is refused; E11, E14 and E15 for these causes alone
+pub record StopsAt (why : Causes) (old : State) (script : List ℕ) (line : ℕ) (text : List ℕ) (new : State) : Type 0 where
   pub before : List Printed
   pub last : Printed
-  pub steps : LineSteps Cause old (take line (script_lines script)) (before ++ last ∷ []) new
+  pub steps : LineSteps why old (take line (script_lines script)) (before ++ last ∷ []) new
   pub line_is : line ≡ length before + 1
   pub text_is : text ≡ printed_text (before ++ last ∷ [])
   pub none_before : refusals before ≡ 0
   pub refused_last : IsTrue last.is_refusal
 
--- the script is run up to a line whose text the writer does not take whole: it takes `written` bytes of what is printed; E11 for this cause alone
-pub record BreaksOff (Cause : Type 0) (old : State) (script : List ℕ) (stop : Bool) (written : ℕ) (text : List ℕ) (new : State) : Type 0 where
+-- the script is run up to a line whose text the writer does not take whole: it takes `written` bytes of what is printed; E11, E14 and E15 for these causes alone
+pub record BreaksOff (why : Causes) (old : State) (script : List ℕ) (stop : Bool) (written : ℕ) (text : List ℕ) (new : State) : Type 0 where
   pub before : List Printed
   pub last : Printed
-  pub steps : LineSteps Cause old (take (length before + 1) (script_lines script)) (before ++ last ∷ []) new
+  pub steps : LineSteps why old (take (length before + 1) (script_lines script)) (before ++ last ∷ []) new
   pub text_is : text ≡ printed_text (before ++ last ∷ [])
   pub goes_on : IsTrue stop → refusals before ≡ 0
   pub taken_before : length (printed_text before) ≤ written

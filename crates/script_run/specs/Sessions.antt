@@ -27,6 +27,7 @@ use Rattle.script_text.specs.declared.run_end.RunEnd.TheVariants as ends
 use Rattle.script_run.specs.Loading.{Loads, IsLoadRefused}
 use Rattle.script_run.specs.Input.{SessionLine, session_lines, any_cut_off, HasTooMany}
 use Rattle.script_run.specs.Telling.{followed_by}
+use Rattle.script_run.specs.Causes.{Causes, Failures, any_cause, causes_in}
 use Rattle.script_run.specs.Runs.{LineStep, StepsBy, printed_text, refusals}
 use Rattle.script_run.specs.FromScratch.{ScratchSteps, saved}
 
@@ -52,19 +53,19 @@ SaveStep old printed new =
 abbrev pub with_empty_line : Printed → Printed
 with_empty_line answer = followed_by (codes "\n") answer
 
--- each of these may tell of want of memory (E11) for this cause alone
-module _ (Cause : Type 0) where
+-- each of these may tell of want of memory (E11), of a read that failed (E14) and of a file that has changed (E15) for these causes alone
+module _ (why : Causes) where
   -- a line that says this to the session: `save` saves, `save` with more words is S02, and any other line is answered as one of a script
   abbrev pub WordStep : SessionWord → Standing → List ℕ → Printed → Standing → Type 0
   WordStep Save old line printed new = SaveStep old printed new
   WordStep SaveWithMore old line printed new = (printed ≡ fault_reply Words) × (new ≡ old)
-  WordStep Other old line printed new = LineStep Cause old.state line printed new.state × (new.out ≡ old.out)
+  WordStep Other old line printed new = LineStep why old.state line printed new.state × (new.out ≡ old.out)
 
   -- a line that is not too long: where its line feed is missing it is not run, and S06; else it is answered, or E11 where no memory holds it
   abbrev pub EndedStep : Bool → Standing → List ℕ → Printed → Standing → Type 0
   EndedStep false old text printed new = (printed ≡ session_reply (Err CutOff)) × (new ≡ old)
   EndedStep true old text printed new =
-      WordStep (session_word_of (without_return text)) old (without_return text) printed new ⊎ ((printed ≡ fault_reply OutOfMemory) × (new ≡ old) × Cause)
+      WordStep (session_word_of (without_return text)) old (without_return text) printed new ⊎ ((printed ≡ fault_reply OutOfMemory) × (new ≡ old) × why.memory)
 
   -- a line with its answer: one of more than 16777216 bytes is S05, whatever it holds
   abbrev pub AnswerStep : Standing → SessionLine → Printed → Standing → Type 0
@@ -76,13 +77,13 @@ module _ (Cause : Type 0) where
   abbrev pub SessionStep : Standing → SessionLine → Printed → Standing → Type 0
   SessionStep old line printed new = (answer : Printed) × AnswerStep old line answer new × (printed ≡ with_empty_line answer)
 
--- the lines one after another, with what is printed for each, E11 for this cause alone
-abbrev pub SessionSteps : Type 0 → Standing → List SessionLine → List Printed → Standing → Type 0
-SessionSteps Cause old lines printed new = StepsBy (SessionStep Cause) old lines printed new
+-- the lines one after another, with what is printed for each, E11, E14 and E15 for these causes alone
+abbrev pub SessionSteps : Causes → Standing → List SessionLine → List Printed → Standing → Type 0
+SessionSteps why old lines printed new = StepsBy (SessionStep why) old lines printed new
 
 -- a line with what is printed for it, wherever the saves go
 abbrev pub VolumeStep : State → SessionLine → Printed → State → Type 0
-VolumeStep old line printed new = (before : Place) × (after : Place) × SessionStep ⊤ (standing old before) line printed (standing new after)
+VolumeStep old line printed new = (before : Place) × (after : Place) × SessionStep any_cause (standing old before) line printed (standing new after)
 
 -- an answer is lines none of which is empty, with an empty line behind them
 pub record IsAnswer (printed : List ℕ) : Type 0 where
@@ -107,32 +108,34 @@ AllLines known lines = IfSome known (λ bytes. session_lines bytes ≡ lines)
 
 -- ---- the ends
 
--- the readers of the volume and of the lines, the writer of the answers, where the saves go: OUT, or FILE itself, and how often a growth was refused
+-- the readers of the volume and of the lines, the writer of the answers, where the saves go: OUT, or FILE itself, and how often a growth was refused and a
+-- read of the loaded bytes failed
 pub record SessionDevices : Type 0 where
   pub reader : Device
   pub script : Device
   pub answers : Device
   pub out : Place
-  pub refused_growths : ℕ
+  pub failures : Failures
 
 -- these, of a session
-abbrev pub session_devices : Device → Device → Device → Place → ℕ → SessionDevices
-session_devices reader script answers out refused_growths = record { reader = reader; script = script; answers = answers; out = out; refused_growths = refused_growths }
+abbrev pub session_devices : Device → Device → Device → Place → Failures → SessionDevices
+session_devices reader script answers out failures = record { reader = reader; script = script; answers = answers; out = out; failures = failures }
 
 -- the volume is refused, with L16 only where a growth was refused: no line is read, and OUT is as it was
 pub record RefusesSession (options : Options) (old new : SessionDevices) (fault : LoadFault) : Type 0 where
   pub refused : IsLoadRefused old.reader new.reader options.reading options.limits fault
   pub unread : new.script ≡ old.script
   pub unsaved : new.out ≡ old.out
-  pub memory : fault ≡ load_faults.OutOfMemory → WasRefused old.refused_growths new.refused_growths
+  pub memory : fault ≡ load_faults.OutOfMemory → WasRefused old.failures.growths new.failures.growths
 
--- the volume is loaded, and the first lines of the reader are answered, E11 only where a growth was refused; what is held then is the cut of its own bytes
+-- the volume is loaded, and the first lines of the reader are answered, E11 only where a growth was refused, E14 only where a read failed, and never
+-- E15; what is held then is the cut of its own bytes
 pub record AnswersLines (on_disk : Bool) (options : Options) (old new : SessionDevices) (lines : List SessionLine) (printed : List Printed) (end : Standing) : Type 0 where
   pub start : State
   pub loaded : Loads old.reader new.reader options.reading options.limits on_disk start
   pub follows : Follows old.out (bytes_of start.volume)
   pub given : FirstLines old.script.bytes lines
-  pub steps : SessionSteps (WasRefused old.refused_growths new.refused_growths) (standing start old.out) lines printed end
+  pub steps : SessionSteps (causes_in on_disk old.failures new.failures) (standing start old.out) lines printed end
   pub from_scratch : ScratchSteps VolumeStep options.reading options.limits on_disk (saved start) lines printed (saved end.state)
   pub cut : IsCut (bytes_of end.state.volume) options.reading options.limits end.state.volume
   pub full : AreAnswers printed

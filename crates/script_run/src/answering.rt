@@ -1,11 +1,11 @@
 // Answers the lines of a session.
 ghost use Rattle.std.specs.Prelude.{◌≡◌, ◌≤◌, ℕ, List, true, false};
-ghost use Rattle.edit_overlay.specs.Reads.{Follow, HaveAgreed};
-ghost use Rattle.room.specs.Refusals.{WasRefused};
+ghost use Rattle.edit_overlay.specs.Reads.{Follow, HaveAgreed, Reads};
 ghost use Rattle.live_volume.specs.Held.{IsReadAs};
 ghost use Rattle.line_texts.specs.Devices.{device_of};
 ghost use Rattle.script_text.specs.Replies.{Printed};
 ghost use Rattle.script_words.specs.SessionWords.{session_word_of};
+ghost use Rattle.script_run.specs.Causes.{meanwhile, read_meanwhile};
 ghost use Rattle.script_run.specs.Input.{Holds, Held, IsLostWithCause, line_of};
 ghost use Rattle.script_run.specs.Runs.{HasTraces, Prints};
 ghost use Rattle.script_run.specs.Sessions.{standing, AnswerStep, SessionStep, WordStep};
@@ -42,7 +42,7 @@ pub(crate) fn answer_lines<S: Read, A: Write, P: Saves>(
     stop: bool,
 ) -> SessionLines
     ensures lines { HaveAgreed bench.new.reads →
-        AnswersTo (WasRefused room.old room.new)
+        AnswersTo (meanwhile room.old bench.old.reads room.new bench.new.reads)
         (standing bench.old.state (P.place place.old bench.old.loaded))
         (standing bench.new.state (P.place place.new bench.new.loaded)) stop
         (device_of S.remaining script.old) (device_of S.remaining script.new)
@@ -124,7 +124,7 @@ fn answer<A: Write, P: Saves>(
     ensures line { HaveAgreed bench.new.reads → (printed : Printed)
         × ((text : List ℕ) → Holds line.now text →
         (first : ℕ) → first ≤ room.old → IsLostWithCause line.now first room.old →
-        SessionStep (WasRefused first room.new)
+        SessionStep (meanwhile first bench.old.reads room.new bench.new.reads)
         (standing bench.old.state (P.place place.old bench.old.loaded))
         (line_of text has_end) printed
         (standing bench.new.state (P.place place.new bench.new.loaded)))
@@ -147,10 +147,12 @@ fn reply_to<P: Saves>(
     line: &HeldLine,
     has_end: bool,
 ) -> Reply
-    ensures step { HaveAgreed bench.new.reads → (printed : Printed) →
-        Prints bench.new.state result printed → (text : List ℕ) → Holds line.now text →
+    ensures step { HaveAgreed bench.new.reads → (printed : Printed) (reads : Reads) →
+        bench.new.reads.failures ≤ reads.failures →
+        Prints (read_meanwhile bench.new.reads reads) bench.new.state result printed →
+        (text : List ℕ) → Holds line.now text →
         (first : ℕ) → first ≤ room.old → IsLostWithCause line.now first room.old →
-        AnswerStep (WasRefused first room.new)
+        AnswerStep (meanwhile first bench.old.reads room.new reads)
         (standing bench.old.state (P.place place.old bench.old.loaded))
         (line_of text has_end)
         printed (standing bench.new.state (P.place place.new bench.new.loaded)) }
@@ -171,9 +173,10 @@ fn reply_to<P: Saves>(
 
 // The reply to a line that was read whole.
 fn reply_to_text<P: Saves>(room: &mut Room, bench: &mut Bench, place: &mut P, line: &[u8]) -> Reply
-    ensures step { HaveAgreed bench.new.reads → (printed : Printed) →
-        Prints bench.new.state result printed →
-        WordStep (WasRefused room.old room.new) (session_word_of line.now)
+    ensures step { HaveAgreed bench.new.reads → (printed : Printed) (reads : Reads) →
+        bench.new.reads.failures ≤ reads.failures →
+        Prints (read_meanwhile bench.new.reads reads) bench.new.state result printed →
+        WordStep (meanwhile room.old bench.old.reads room.new reads) (session_word_of line.now)
         (standing bench.old.state (P.place place.old bench.old.loaded)) line.now
         printed (standing bench.new.state (P.place place.new bench.new.loaded)) }
     ensures there { HaveAgreed bench.new.reads → HasTraces bench.new.state result }

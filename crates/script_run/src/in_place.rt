@@ -1,5 +1,5 @@
 // Runs behind whose last line FILE itself is repaired.
-ghost use Rattle.std.specs.Prelude.{◌≡◌, ◌≤◌, length, true, false, Err, IsErrAnd, IfOk, IfErr, OnErr, List, ℕ, Bool};
+ghost use Rattle.std.specs.Prelude.{◌≡◌, ◌≤◌, length, true, false, Err, IsErrAnd, IfOk, IfErr, OnErr, List, Bool};
 ghost use Rattle.edit_overlay.specs.Reads.{Follow, HaveAgreed};
 ghost use Rattle.room.specs.Refusals.{Rises};
 ghost use Rattle.live_volume.specs.Held.{IsReadAs};
@@ -9,6 +9,7 @@ ghost use Rattle.line_texts.specs.Devices.{Device, device_of};
 ghost use Rattle.refusal_texts.specs.RefusalTexts.{load_refusal_line};
 ghost use Rattle.script_text.specs.declared.run_end.RunEnd.TheVariants as ends;
 ghost use Rattle.script_run.specs.Ends.{IsTold};
+ghost use Rattle.script_run.specs.Causes.{Failures, failures, Spans};
 ghost use Rattle.script_run.specs.Loading.{Loads};
 ghost use Rattle.script_run.specs.OnDisk.{unread, read_whole, RefusesPass};
 ghost use Rattle.script_run.specs.InPlace.{reading_devices, ComesOfFailure, Repairs, RunsInPlace};
@@ -65,9 +66,9 @@ pub fn run_in_place<R: Read, S: Read, A: Write, D: Disk>(
     requires piece { length piece.old ≡ PIECE_ROOM }
     ensures run { RunsInPlace false options
         (reading_devices (device_of R.remaining reader.old) (device_of S.remaining script.old)
-        (device_of A.contents answers.old) room.old)
+        (device_of A.contents answers.old) (failures room.old 0))
         (reading_devices (device_of R.remaining reader.new) (device_of S.remaining script.new)
-        (device_of A.contents answers.new) room.new)
+        (device_of A.contents answers.new) (failures room.new 0))
         result.end result.repaired (D.disk disk.old) (D.disk disk.new) }
     ensures cause { ComesOfFailure result.repaired (D.failed disk.new) }
 {
@@ -108,14 +109,16 @@ fn loaded_in_place<S: Read, A: Write, D: Disk>(
     notes: &mut Notes,
 ) -> RepairRun
     requires piece { length piece.old ≡ PIECE_ROOM }
-    ensures run { (before after : Device) (refusals : ℕ) → refusals ≤ room.old →
+    ensures run { (before after : Device) (first last : Failures) →
+        Spans bench.old.state.on_disk first last (failures room.old bench.old.reads.failures)
+        (failures room.new bench.new.reads.failures) →
         Loads before after options.reading options.limits bench.old.state.on_disk
         bench.old.state → bench.old.loaded ≡ bytes_of bench.old.state.volume →
         HaveAgreed bench.new.reads → RunsInPlace bench.old.state.on_disk options
         (reading_devices before (device_of S.remaining script.old)
-        (device_of A.contents answers.old) refusals)
+        (device_of A.contents answers.old) first)
         (reading_devices after (device_of S.remaining script.new)
-        (device_of A.contents answers.new) room.new)
+        (device_of A.contents answers.new) last)
         result.end result.repaired (D.disk disk.old) (D.disk disk.new) }
     ensures same { IsReadAs bench.old.state bench.new.state }
     ensures reads { Follow bench.old.reads bench.new.reads }
@@ -192,9 +195,9 @@ pub fn run_on_disk_in_place<S: Read, A: Write, D: Disk>(
     requires piece { length piece.old ≡ PIECE_ROOM }
     ensures run { IfOk result.volume (λ volume. HaveAgreed volume.reads → RunsInPlace true options
         (reading_devices (unread volume.loaded) (device_of S.remaining script.old)
-        (device_of A.contents answers.old) room.old)
+        (device_of A.contents answers.old) (failures room.old 0))
         (reading_devices read_whole (device_of S.remaining script.new)
-        (device_of A.contents answers.new) room.new)
+        (device_of A.contents answers.new) (failures room.new volume.reads.failures))
         result.run.end result.run.repaired (D.disk disk.old) (D.disk disk.new)) }
     ensures size { IfOk result.volume (λ volume. length volume.loaded ≡ size) }
     ensures refused { IfErr result.volume (RefusesPass size options

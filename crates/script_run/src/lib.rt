@@ -5,6 +5,7 @@
 //! line `save`. Both answer by
 //! [`RunEnd`], which is the whole report of a run. [`run_on_disk`] and [`session_on_disk`] do the
 //! same over a file whose bytes stay on disk, and give the volume back beside the end.
+//! [`answer_line`] is one line of a run.
 //! [`run_in_place`] and [`run_on_disk_in_place`] repair FILE itself behind the last line, and so
 //! does a session whose saves go to [`InPlace`]; those of [`Outside`] go to OUT. They take
 //! memory for the volume and for lines, and tell want of it as L16, P03 or E11, only where a growth
@@ -43,8 +44,10 @@ pub use crate::laws::{
 };
 pub use crate::on_disk::{load_on_disk, run_on_disk, session_on_disk};
 pub use crate::options::Options;
+pub use crate::running::answer_line;
 pub use crate::saves::{Outside, Saves};
 pub use crate::session_repairs::InPlace;
+pub use crate::told::Told;
 pub use crate::whole_run::{refuse_too_large, run, run_loaded};
 pub use crate::whole_session::{session, session_loaded};
 pub use bench_core::Bench;

@@ -9,6 +9,7 @@ ghost use Rattle.volume_loading.specs.PassedFile.{IsPassFault};
 ghost use Rattle.line_texts.specs.Devices.{device_of};
 ghost use Rattle.refusal_texts.specs.RefusalTexts.{load_refusal_line};
 ghost use Rattle.script_text.specs.declared.run_end.RunEnd.TheVariants as ends;
+ghost use Rattle.script_run.specs.Causes.{failures};
 ghost use Rattle.script_run.specs.Ends.{devices, IsTold, Runs};
 ghost use Rattle.script_run.specs.Sessions.{session_devices, Session};
 ghost use Rattle.script_run.specs.OnDisk.{unread, read_whole, RefusesPass};
@@ -33,7 +34,8 @@ use std::io::{Read, Write};
 /// front to its end, and then by place where a line looks at a trace, and by the save. Where each
 /// later read gave the bytes of the first pass (`HaveAgreed`, which only clauses see), this is what
 /// [`run`](crate::run) does with a reader of these bytes (`loaded`), but that a line that looks may
-/// also be E14 or E15, and the save may fail for a read. Whatever the file gives, the call returns.
+/// also be E14, or end with it, and the save may fail for a read, both only where a read failed;
+/// none is E15. Whatever the file gives, the call returns.
 /// A refused file: L01 where a read failed or the file has not so many bytes, L02 to L15 or L17 for
 /// the first reason that every file gives which has so many bytes and begins with those that were
 /// read, L16 for want of memory. Takes memory as `run`.
@@ -49,10 +51,11 @@ pub fn run_on_disk<S: Read, A: Write, O: Write>(
 ) -> DiskRun
     ensures run { IfOk result.volume (λ volume. HaveAgreed volume.reads → Runs true options
         (devices (unread volume.loaded) (device_of S.remaining script.old)
-        (device_of A.contents answers.old) (device_of O.contents out.old) room.old)
+        (device_of A.contents answers.old) (device_of O.contents out.old)
+        (failures room.old 0))
         (devices read_whole (device_of S.remaining script.new)
-        (device_of A.contents answers.new) (device_of O.contents out.new) room.new)
-        result.end) }
+        (device_of A.contents answers.new) (device_of O.contents out.new)
+        (failures room.new volume.reads.failures)) result.end) }
     ensures size { IfOk result.volume (λ volume. length volume.loaded ≡ size) }
     ensures refused { IfErr result.volume (RefusesPass size options
         (device_of S.remaining script.old) (device_of S.remaining script.new)
@@ -87,10 +90,11 @@ pub fn session_on_disk<S: Read, A: Write, P: Saves>(
 ) -> DiskRun
     ensures session { IfOk result.volume (λ volume. HaveAgreed volume.reads → Session true options
         (session_devices (unread volume.loaded) (device_of S.remaining script.old)
-        (device_of A.contents answers.old) (P.place place.old volume.loaded) room.old)
+        (device_of A.contents answers.old) (P.place place.old volume.loaded)
+        (failures room.old 0))
         (session_devices read_whole (device_of S.remaining script.new)
-        (device_of A.contents answers.new) (P.place place.new volume.loaded) room.new)
-        result.end) }
+        (device_of A.contents answers.new) (P.place place.new volume.loaded)
+        (failures room.new volume.reads.failures)) result.end) }
     ensures size { IfOk result.volume (λ volume. length volume.loaded ≡ size) }
     ensures refused { IfErr result.volume (RefusesPass size options
         (device_of S.remaining script.old) (device_of S.remaining script.new)

@@ -1,6 +1,7 @@
 // Runs the lines of a script over a volume.
-ghost use Rattle.std.specs.Prelude.{◌≡◌, ◌≤◌, ◌++◌, ℕ, length, IsOk, IsTrue, MatchResult, None, Ok};
-ghost use Rattle.edit_overlay.specs.Reads.{Follow, HaveAgreed};
+ghost use Rattle.std.specs.Prelude.{◌≡◌, ◌⊎◌, ◌≤◌, ◌+◌, ◌++◌, ℕ, length, IsOk, IsTrue, MatchResult, None, Ok};
+ghost use Rattle.edit_overlay.specs.CountedVolume.{RisesAtMost};
+ghost use Rattle.edit_overlay.specs.Reads.{Follow, HaveAgreed, Reads};
 ghost use Rattle.room.specs.Refusals.{WasRefused};
 ghost use Rattle.frame_cut.specs.Traces.{count_of};
 ghost use Rattle.bench_rules.specs.Conditions.{AreRising};
@@ -11,6 +12,8 @@ ghost use Rattle.live_volume.specs.Held.{IsReadAs};
 ghost use Rattle.line_texts.specs.Devices.{device_of};
 ghost use Rattle.script_run.specs.Telling.{IsWritten};
 ghost use Rattle.script_run.specs.LineRuns.{RunsLines};
+ghost use Rattle.script_run.specs.LineLooks.{command_looks, held_rows, line_looks};
+ghost use Rattle.script_run.specs.Causes.{meanwhile, read_meanwhile};
 ghost use Rattle.script_text.specs.Replies.{Printed};
 ghost use Rattle.script_run.specs.Runs.{LineStep, CommandStep, HasTraces, IsPrintedBy, IsPrintedOf, Prints, asks_for_section as asks_for_section_of, section_in, asks_for_stats as asks_for_stats_of, floats_asked, tells_samples as tells_samples_of};
 ghost use Rattle.script_words.specs.declared.command.Command.TheVariants.{Ask};
@@ -41,8 +44,8 @@ pub(crate) fn run_lines<A: Write>(
 ) -> LinesEnd
     requires { length script.now ≤ 16777216 }
     ensures lines { HaveAgreed bench.new.reads →
-        RunsLines (WasRefused room.old room.new) bench.old.state bench.new.state script.now stop
-        (device_of A.contents answers.old)
+        RunsLines (meanwhile room.old bench.old.reads room.new bench.new.reads)
+        bench.old.state bench.new.state script.now stop (device_of A.contents answers.old)
         (device_of A.contents answers.new) result }
     ensures same { IsReadAs bench.old.state bench.new.state }
     ensures reads { Follow bench.old.reads bench.new.reads }
@@ -76,8 +79,15 @@ pub(crate) fn run_lines<A: Write>(
     LinesEnd::Whole { refused }
 }
 
-// Runs one line and writes its reply. Where it is refused, it is noted under its number.
-fn answer_line<A: Write>(
+/// Runs one line of a script, and writes its whole answer, as [`run`](crate::run) does with each of
+/// its lines. What waits in `out` is dropped first. Of a file on disk all that is said of it holds
+/// where each read until its end gave the bytes of the load, whatever those behind it give: the
+/// answer is then right. It is never E15; it is E14, or ends with it, only where a read failed in
+/// this call, and E11 only where a growth was refused in it. A refused line is noted under its
+/// number, which counts from 1. Looks at no more traces than `line_looks`, its definition, says;
+/// which slices are kept behind it is not told. Refused: where the answers failed. Takes memory as
+/// the line does.
+pub fn answer_line<A: Write>(
     room: &mut Room,
     bench: &mut Bench,
     line: &[u8],
@@ -89,11 +99,14 @@ fn answer_line<A: Write>(
     ensures line { let old = device_of A.contents answers.old in
         let new = device_of A.contents answers.new in
         HaveAgreed bench.new.reads → (printed : Printed)
-        × LineStep (WasRefused room.old room.new) bench.old.state line.now printed bench.new.state
+        × LineStep (meanwhile room.old bench.old.reads room.new bench.new.reads)
+        bench.old.state line.now printed bench.new.state
         × IsWritten old new printed result }
     ensures same { IsReadAs bench.old.state bench.new.state }
     ensures reads { Follow bench.old.reads bench.new.reads }
     ensures loaded { bench.new.loaded ≡ bench.old.loaded }
+    ensures looks { HaveAgreed bench.new.reads → RisesAtMost bench.old.looks bench.new.looks
+        (line_looks bench.old.state bench.old.kept line.now) }
     ensures never_falls { room.old ≤ room.new }
 {
     let reply = run_line(room, bench, line);
@@ -118,16 +131,21 @@ fn note_broken(notes: &mut Notes, number: u64, line: &[u8], told: &Result<Told, 
     }
 }
 
-/// Runs one line.
+/// Runs one line. The traces of a section are looked at while it is written: `reads` is what is
+/// known of the reads when that is done.
 pub(crate) fn run_line(room: &mut Room, bench: &mut Bench, line: &[u8]) -> Reply
-    ensures step { HaveAgreed bench.new.reads → (printed : Printed) →
-        Prints bench.new.state result printed →
-        LineStep (WasRefused room.old room.new) bench.old.state line.now printed
-        bench.new.state }
+    ensures step { HaveAgreed bench.new.reads → (printed : Printed) (reads : Reads) →
+        bench.new.reads.failures ≤ reads.failures →
+        Prints (read_meanwhile bench.new.reads reads) bench.new.state result printed →
+        LineStep (meanwhile room.old bench.old.reads room.new reads)
+        bench.old.state line.now printed bench.new.state }
     ensures there { HaveAgreed bench.new.reads → HasTraces bench.new.state result }
     ensures same { IsReadAs bench.old.state bench.new.state }
     ensures reads { Follow bench.old.reads bench.new.reads }
     ensures loaded { bench.new.loaded ≡ bench.old.loaded }
+    ensures looks { HaveAgreed bench.new.reads → bench.new.looks + held_rows result
+        ≤ bench.old.looks + line_looks bench.old.state bench.old.kept line.now }
+    ensures no_fewer { bench.old.looks ≤ bench.new.looks }
     ensures never_falls { room.old ≤ room.new }
 {
     let traces = bench.volume().count();
@@ -139,14 +157,18 @@ pub(crate) fn run_line(room: &mut Room, bench: &mut Bench, line: &[u8]) -> Reply
 }
 
 fn run_command(room: &mut Room, bench: &mut Bench, command: &Command) -> Reply
-    ensures step { HaveAgreed bench.new.reads → (printed : Printed) →
-        Prints bench.new.state result printed →
-        CommandStep (WasRefused room.old room.new) bench.old.state command.now printed
-        bench.new.state }
+    ensures step { HaveAgreed bench.new.reads → (printed : Printed) (reads : Reads) →
+        bench.new.reads.failures ≤ reads.failures →
+        Prints (read_meanwhile bench.new.reads reads) bench.new.state result printed →
+        CommandStep (meanwhile room.old bench.old.reads room.new reads)
+        bench.old.state command.now printed bench.new.state }
     ensures there { HaveAgreed bench.new.reads → HasTraces bench.new.state result }
     ensures same { IsReadAs bench.old.state bench.new.state }
     ensures reads { Follow bench.old.reads bench.new.reads }
     ensures loaded { bench.new.loaded ≡ bench.old.loaded }
+    ensures looks { HaveAgreed bench.new.reads → bench.new.looks + held_rows result
+        ≤ bench.old.looks + command_looks bench.old.state bench.old.kept command.now }
+    ensures no_fewer { bench.old.looks ≤ bench.new.looks }
     ensures never_falls { room.old ≤ room.new }
 {
     match command {
@@ -157,14 +179,18 @@ fn run_command(room: &mut Room, bench: &mut Bench, command: &Command) -> Reply
 
 // The reply to a query. Where it tells of samples that are floats, it has their words.
 fn answered(room: &mut Room, bench: &mut Bench, query: &Query) -> Reply
-    ensures step { HaveAgreed bench.new.reads → (printed : Printed) →
-        Prints bench.new.state result printed →
-        CommandStep (WasRefused room.old room.new) bench.old.state (Ask query.now) printed
-        bench.new.state }
+    ensures step { HaveAgreed bench.new.reads → (printed : Printed) (reads : Reads) →
+        bench.new.reads.failures ≤ reads.failures →
+        Prints (read_meanwhile bench.new.reads reads) bench.new.state result printed →
+        CommandStep (meanwhile room.old bench.old.reads room.new reads)
+        bench.old.state (Ask query.now) printed bench.new.state }
     ensures there { HaveAgreed bench.new.reads → HasTraces bench.new.state result }
     ensures same { IsReadAs bench.old.state bench.new.state }
     ensures reads { Follow bench.old.reads bench.new.reads }
     ensures loaded { bench.new.loaded ≡ bench.old.loaded }
+    ensures looks { HaveAgreed bench.new.reads → bench.new.looks + held_rows result
+        ≤ bench.old.looks + command_looks bench.old.state bench.old.kept (Ask query.now) }
+    ensures no_fewer { bench.old.looks ≤ bench.new.looks }
     ensures never_falls { room.old ≤ room.new }
 {
     if asks_for_section(query) {
@@ -184,10 +210,14 @@ fn asks_for_section(query: &Query) -> bool
 
 // The reply to a query for a section, whose samples are looked at while it is written.
 fn section_reply(reply: Result<Answer, AskFault>) -> Reply
-    ensures printed { (s : State) (printed : Printed) → Prints s result printed →
-        IsPrintedBy s (section_in reply) None reply printed }
+    ensures printed { (s : State) (before now : Reads) (printed : Printed) →
+        Prints (read_meanwhile before now) s result printed →
+        IsPrintedBy (read_meanwhile before now) s (section_in reply) None reply printed }
     ensures there { (s : State) → ((section : Section) → reply ≡ Ok (answers.Section section) →
         AreRising 1 (count_of s.volume) section.traces) → HasTraces s result }
+    ensures rows { (held_rows result ≡ 0) ⊎ ((section : Section)
+        × (reply ≡ Ok (answers.Section section))
+        × (held_rows result ≡ length section.traces)) }
 {
     match reply {
         Ok(Answer::Section(section)) => Reply::Section(section),
@@ -231,12 +261,15 @@ fn shown_reply(
     floats: Option<FloatFormat>,
     reply: Result<Answer, AskFault>,
 ) -> Reply
-    ensures printed { (s : State) (printed : Printed) → Prints s result printed →
+    ensures printed { (s : State) (before now : Reads) (printed : Printed) →
+        Prints (read_meanwhile before now) s result printed →
         IsPrintedOf floats reply printed }
     ensures there { (s : State) → HasTraces s result }
+    ensures rows { held_rows result ≡ 0 }
 
     // An answer is refused only where there was no memory for its words.
-    ensures words { (s : State) (printed : Printed) → Prints s result printed → IsOk reply →
+    ensures words { (s : State) (before now : Reads) (printed : Printed) →
+        Prints (read_meanwhile before now) s result printed → IsOk reply →
         IsTrue printed.is_refusal → WasRefused room.old room.new }
     ensures never_falls { room.old ≤ room.new }
 {

@@ -1,10 +1,12 @@
 // Writes samples of many traces, each trace while it is looked at.
-ghost use Rattle.std.specs.Prelude.{◌≡◌, ◌<◌, ◌^◌};
+ghost use Rattle.std.specs.Prelude.{◌≡◌, ◌<◌, ◌^◌, length};
+ghost use Rattle.edit_overlay.specs.CountedVolume.{RisesAtMost};
 ghost use Rattle.edit_overlay.specs.Reads.{Follow, HaveAgreed};
 ghost use Rattle.line_texts.specs.Devices.{device_of};
 ghost use Rattle.script_text.specs.Replies.{Printed};
 ghost use Rattle.bench_rules.specs.Conditions.{AreRising};
 ghost use Rattle.frame_cut.specs.Traces.{count_of};
+ghost use Rattle.script_run.specs.Causes.{read_meanwhile};
 ghost use Rattle.script_run.specs.Sections.{AreRowsOut, IsRowOut, IsSectionPrinted};
 ghost use Rattle.script_run.specs.Telling.{IsWritten, followed_by};
 
@@ -30,12 +32,14 @@ pub(crate) fn write_section<A: Write>(
 ) -> Result<Told, WriteFault>
     ensures written { HaveAgreed bench.new.reads →
         AreRising 1 (count_of bench.old.state.volume) section.now.traces → (printed : Printed)
-        × IsSectionPrinted bench.old.state section.now printed
+        × IsSectionPrinted (read_meanwhile bench.old.reads bench.new.reads)
+        bench.old.state section.now printed
         × IsWritten (device_of A.contents answers.old) (device_of A.contents answers.new)
         (followed_by behind.now printed) result }
     ensures state { bench.new.state ≡ bench.old.state }
     ensures reads { Follow bench.old.reads bench.new.reads }
     ensures loaded { bench.new.loaded ≡ bench.old.loaded }
+    ensures looks { RisesAtMost bench.old.looks bench.new.looks (length section.now.traces) }
 {
     out.begin();
     push_section_head(out, answers, section.traces.as_slice().len() as u64)?;
@@ -59,12 +63,15 @@ fn push_rows<A: Write>(
     section: &Section,
 ) -> Result<Option<AskFault>, WriteFault>
     requires { out.old.written < 2 ^ 64 }
-    ensures rows { HaveAgreed bench.new.reads → AreRowsOut bench.old.state section.now
+    ensures rows { HaveAgreed bench.new.reads →
+        AreRowsOut (read_meanwhile bench.old.reads bench.new.reads)
+        bench.old.state section.now
         (device_of A.contents answers.old) (device_of A.contents answers.new)
         out.old out.new result }
     ensures state { bench.new.state ≡ bench.old.state }
     ensures reads { Follow bench.old.reads bench.new.reads }
     ensures loaded { bench.new.loaded ≡ bench.old.loaded }
+    ensures looks { RisesAtMost bench.old.looks bench.new.looks (length section.now.traces) }
 {
     let floats = bench.float_format();
     for p in section.traces.as_slice() {
@@ -85,12 +92,15 @@ fn push_row<A: Write>(
     p: u32,
     range: SampleRange,
 ) -> Result<Option<AskFault>, WriteFault>
-    ensures row { HaveAgreed bench.new.reads → IsRowOut bench.old.state floats range p
+    ensures row { HaveAgreed bench.new.reads →
+        IsRowOut (read_meanwhile bench.old.reads bench.new.reads)
+        bench.old.state floats range p
         (device_of A.contents answers.old) (device_of A.contents answers.new)
         out.old out.new result }
     ensures state { bench.new.state ≡ bench.old.state }
     ensures reads { Follow bench.old.reads bench.new.reads }
     ensures loaded { bench.new.loaded ≡ bench.old.loaded }
+    ensures looks { RisesAtMost bench.old.looks bench.new.looks 1 }
 {
     let count = bench.volume().count();
     match bench.look(p) {

@@ -1,10 +1,13 @@
 // Writes the reply to a line.
 ghost use Rattle.std.specs.Prelude.{◌≡◌};
+ghost use Rattle.edit_overlay.specs.CountedVolume.{RisesAtMost};
 ghost use Rattle.edit_overlay.specs.Reads.{Follow, HaveAgreed};
 ghost use Rattle.live_volume.specs.Held.{IsReadAs};
 ghost use Rattle.line_texts.specs.Devices.{device_of};
 ghost use Rattle.script_text.specs.Held.{printed_of};
 ghost use Rattle.script_text.specs.Replies.{Printed};
+ghost use Rattle.script_run.specs.LineLooks.{held_rows};
+ghost use Rattle.script_run.specs.Causes.{read_meanwhile};
 ghost use Rattle.script_run.specs.Runs.{HasTraces, Prints};
 ghost use Rattle.script_run.specs.Telling.{IsWritten, followed_by};
 
@@ -18,11 +21,11 @@ use std::io::Write;
 
 /// What was written for a line.
 #[derive(Clone, Copy, Debug, PartialEq, Eq)]
-pub(crate) struct Told {
+pub struct Told {
     /// How many bytes; at `u64::MAX` it stays.
-    pub(crate) length: u64,
+    pub length: u64,
     /// Whether the line was refused.
-    pub(crate) is_refusal: bool,
+    pub is_refusal: bool,
     /// Why a section ends in front of its last row.
     pub(crate) broken_by: Option<AskFault>,
 }
@@ -38,12 +41,14 @@ pub(crate) fn write_reply<A: Write>(
 ) -> Result<Told, WriteFault>
     ensures written { HaveAgreed bench.new.reads → HasTraces bench.old.state reply.now →
         (printed : Printed)
-        × Prints bench.old.state reply.now printed
+        × Prints (read_meanwhile bench.old.reads bench.new.reads)
+        bench.old.state reply.now printed
         × IsWritten (device_of A.contents answers.old) (device_of A.contents answers.new)
         (followed_by behind.now printed) result }
     ensures state { bench.new.state ≡ bench.old.state }
     ensures reads { Follow bench.old.reads bench.new.reads }
     ensures loaded { bench.new.loaded ≡ bench.old.loaded }
+    ensures looks { RisesAtMost bench.old.looks bench.new.looks (held_rows reply.now) }
 {
     match reply {
         Reply::Section(section) => write_section(bench, out, answers, section, behind),

@@ -1,5 +1,5 @@
 // Runs a script over a volume.
-ghost use Rattle.std.specs.Prelude.{◌≡◌, ◌≤◌, ℕ, length, true, false, IsErrOf, IfOk, IfErr, MatchResult};
+ghost use Rattle.std.specs.Prelude.{◌≡◌, ◌≤◌, length, true, false, IsErrOf, IfOk, IfErr, MatchResult};
 ghost use Rattle.edit_overlay.specs.Reads.{Follow, HaveAgreed};
 ghost use Rattle.room.specs.Refusals.{Rises};
 ghost use Rattle.live_volume.specs.Held.{IsReadAs};
@@ -8,6 +8,7 @@ ghost use Rattle.refusal_texts.specs.RefusalTexts.{load_refusal_line};
 ghost use Rattle.script_text.specs.declared.run_end.RunEnd.TheVariants as ends;
 ghost use Rattle.line_texts.specs.Devices.{Device, device_of, Takes};
 ghost use Rattle.script_run.specs.Loading.{Loads, IsLoadRefused};
+ghost use Rattle.script_run.specs.Causes.{Failures, failures, read_meanwhile, Spans};
 ghost use Rattle.script_run.specs.Ends.{devices, IsTold, Runs, SavesPart};
 
 use crate::lines_end::LinesEnd;
@@ -47,11 +48,12 @@ pub fn run<R: Read, S: Read, A: Write, O: Write>(
     ensures run { Runs false options
         (devices (device_of R.remaining reader.old)
         (device_of S.remaining script.old)
-        (device_of A.contents answers.old) (device_of O.contents out.old) room.old)
+        (device_of A.contents answers.old) (device_of O.contents out.old)
+        (failures room.old 0))
         (devices (device_of R.remaining reader.new)
         (device_of S.remaining script.new)
-        (device_of A.contents answers.new) (device_of O.contents out.new) room.new)
-        result }
+        (device_of A.contents answers.new) (device_of O.contents out.new)
+        (failures room.new 0)) result }
     ensures never_falls { room.old ≤ room.new }
 {
     match load(room, reader, options) {
@@ -79,14 +81,15 @@ pub fn run_loaded<S: Read, A: Write, O: Write>(
     options: Options,
     notes: &mut Notes,
 ) -> RunEnd
-    ensures run { (before after : Device) (refusals : ℕ) → refusals ≤ room.old →
+    ensures run { (before after : Device) (first last : Failures) →
+        Spans bench.old.state.on_disk first last (failures room.old bench.old.reads.failures)
+        (failures room.new bench.new.reads.failures) →
         Loads before after options.reading options.limits bench.old.state.on_disk
         bench.old.state → HaveAgreed bench.new.reads → Runs bench.old.state.on_disk options
         (devices before (device_of S.remaining script.old)
-        (device_of A.contents answers.old) (device_of O.contents out.old) refusals)
+        (device_of A.contents answers.old) (device_of O.contents out.old) first)
         (devices after (device_of S.remaining script.new)
-        (device_of A.contents answers.new) (device_of O.contents out.new) room.new)
-        result }
+        (device_of A.contents answers.new) (device_of O.contents out.new) last) result }
     ensures same { IsReadAs bench.old.state bench.new.state }
     ensures reads { Follow bench.old.reads bench.new.reads }
     ensures loaded { bench.new.loaded ≡ bench.old.loaded }
@@ -131,8 +134,9 @@ fn save<O: Write>(bench: &mut Bench, out: &mut Sink<O>) -> Result<(), SaveFault>
         let new = device_of O.contents out.new in
         HaveAgreed bench.new.reads →
         MatchResult result (λ _. Takes old new (bytes_of bench.old.state.volume))
-        (λ fault. SavesPart bench.old.state.on_disk old new (bytes_of bench.old.state.volume)
-        fault) }
+        (λ fault. SavesPart
+        (read_meanwhile bench.old.reads bench.new.reads)
+        bench.old.state.on_disk old new (bytes_of bench.old.state.volume) fault) }
     ensures state { bench.new.state ≡ bench.old.state }
     ensures reads { Follow bench.old.reads bench.new.reads }
     ensures loaded { bench.new.loaded ≡ bench.old.loaded }

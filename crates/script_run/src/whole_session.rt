@@ -5,6 +5,7 @@ ghost use Rattle.frame_cut.specs.Volume.{bytes_of};
 ghost use Rattle.live_volume.specs.Held.{IsReadAs};
 ghost use Rattle.line_texts.specs.Devices.{Device, device_of};
 ghost use Rattle.script_run.specs.Loading.{Loads};
+ghost use Rattle.script_run.specs.Causes.{Failures, failures, Spans};
 ghost use Rattle.script_run.specs.Sessions.{session_devices, Session};
 
 use crate::answering::answer_lines;
@@ -49,11 +50,12 @@ pub fn session<R: Read, S: Read, A: Write, P: Saves>(
     ensures { (loaded : List ℕ) × Session false options
         (session_devices (device_of R.remaining reader.old)
         (device_of S.remaining script.old)
-        (device_of A.contents answers.old) (P.place place.old loaded) room.old)
+        (device_of A.contents answers.old) (P.place place.old loaded)
+        (failures room.old 0))
         (session_devices (device_of R.remaining reader.new)
         (device_of S.remaining script.new)
-        (device_of A.contents answers.new) (P.place place.new loaded) room.new)
-        result }
+        (device_of A.contents answers.new) (P.place place.new loaded)
+        (failures room.new 0)) result }
 {
     match load(room, reader, options) {
         Ok(mut bench) => {
@@ -77,14 +79,16 @@ pub fn session_loaded<S: Read, A: Write, P: Saves>(
     place: &mut P,
     options: Options,
 ) -> RunEnd
-    ensures session { (before after : Device) (refusals : ℕ) → refusals ≤ room.old →
+    ensures session { (before after : Device) (first last : Failures) →
+        Spans bench.old.state.on_disk first last (failures room.old bench.old.reads.failures)
+        (failures room.new bench.new.reads.failures) →
         Loads before after options.reading options.limits bench.old.state.on_disk
         bench.old.state → bench.old.loaded ≡ bytes_of bench.old.state.volume →
         HaveAgreed bench.new.reads → Session bench.old.state.on_disk options
         (session_devices before (device_of S.remaining script.old)
-        (device_of A.contents answers.old) (P.place place.old bench.old.loaded) refusals)
+        (device_of A.contents answers.old) (P.place place.old bench.old.loaded) first)
         (session_devices after (device_of S.remaining script.new)
-        (device_of A.contents answers.new) (P.place place.new bench.new.loaded) room.new)
+        (device_of A.contents answers.new) (P.place place.new bench.new.loaded) last)
         result }
     ensures same { IsReadAs bench.old.state bench.new.state }
     ensures reads { Follow bench.old.reads bench.new.reads }

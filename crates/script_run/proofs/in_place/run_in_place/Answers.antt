@@ -1,4 +1,6 @@
-use Rattle.std.proofs.Common.{refl, ◌∙◌, ap, Err}
+use Rattle.std.proofs.Common.{refl, ◌∙◌, ap, Err, arith}
+use Rattle.script_run.specs.Causes.{failures}
+use Rattle.script_run.proofs.CauseLemmas.{spans_in_memory}
 use Rattle.script_run.proofs.EndLemmas.{loads_in_memory}
 use Rattle.script_run.proofs.InPlaceLemmas.{load_end_in_place, in_memory}
 use Rattle.script_run.proofs.in_place.run_in_place.Goals as goal
@@ -13,5 +15,5 @@ pub returns-in-Ok-clause-run : goal.returns-in-Ok-clause-run
 returns-in-Ok-clause-run g c =
     let memory = c.in-Ok.ensures.ok.place_is in
     in_memory c.args.options _ _ _ _ _ _ c.in-Ok.bench.state memory (
-    c.loaded_in_place-run.ensures.run _ _ c.args.room.now c.in-Ok.ensures.memory.never_falls (loads_in_memory _ _ _ _ c.in-Ok.bench.state memory c.in-Ok.ensures.ok) c.in-Ok.ensures.loaded
+    c.loaded_in_place-run.ensures.run _ _ (failures c.args.room.now 0) (failures c.loaded_in_place-run.new.room 0) (spans_in_memory c.in-Ok.bench.state.on_disk _ _ _ _ memory c.in-Ok.ensures.memory.never_falls (omega arith)) (loads_in_memory _ _ _ _ c.in-Ok.bench.state memory c.in-Ok.ensures.ok) c.in-Ok.ensures.loaded
     (c.memory_agrees.ensures (c.loaded_in_place-run.ensures.same.on_disk ∙ memory)))

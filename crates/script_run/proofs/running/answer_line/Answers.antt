@@ -11,7 +11,7 @@ returns-clause-line g c = λ sure.
     let before = wrote.reads.agreed sure in
     let told = wrote.written sure (c.run_line-reply.ensures.there before) in (
       told.0,
-      rw wrote.state (c.run_line-reply.ensures.step before told.0 told.1),
+      rw wrote.state (c.run_line-reply.ensures.step before told.0 c.write_reply-told.new.bench.reads wrote.reads.failures told.1),
       subst (λ (p : Printed). IsWritten (device_of g.A.Write.contents c.args.answers.now) (device_of g.A.Write.contents c.write_reply-told.new.answers) p c.write_reply-told.result)
           (followed_by_none told.0) told.2,
     )

@@ -1,4 +1,5 @@
 use Rattle.std.proofs.Common.{◌≡◌, drop}
+use Rattle.edit_overlay.specs.CountedVolume.{RisesAtMost}
 use Rattle.edit_overlay.specs.Reads.{Follow, HaveAgreed}
 use Rattle.line_texts.specs.Devices.{device_of}
 use Rattle.script_run.proofs.SectionOutLemmas.{RowsBegun}
@@ -11,4 +12,5 @@ invariant-loop-p g l = record {
   state : l.bench.state ≡ l.fn.bench.state;
   reads : Follow l.fn.bench.reads l.bench.reads;
   loaded : l.bench.loaded ≡ l.fn.bench.loaded;
+  looks : RisesAtMost l.fn.bench.looks l.bench.looks l.p-index;
 }

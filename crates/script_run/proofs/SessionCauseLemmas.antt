@@ -1,5 +1,4 @@
--- What is said of lines of a session with one cause of E11 is said with each that follows from it.
-use Rattle.std.specs.Prelude.{⊤}
+-- What is said of lines of a session with some causes of E11, E14 and E15 is said with those that follow from them.
 use Rattle.std.proofs.Common.{ℕ, Bool, true, false, List, [], ◌∷◌, inl, inr}
 use Rattle.script_words.specs.declared.session_words.SessionWord.{SessionWord}
 use Rattle.script_words.specs.declared.session_words.SessionWord.TheVariants.{Save, SaveWithMore, Other}
@@ -9,12 +8,13 @@ use Rattle.line_texts.specs.Devices.{Device}
 use Rattle.script_text.specs.Replies.{Printed}
 use Rattle.script_run.specs.declared.session_lines.SessionLines.{SessionLines}
 use Rattle.script_run.specs.declared.session_lines.SessionLines.TheVariants.{Whole, Stopped, Answers, Script}
+use Rattle.script_run.specs.Causes.{Causes, any_cause}
 use Rattle.script_run.specs.Input.{SessionLine}
 use Rattle.script_run.specs.Sessions.{Standing, WordStep, EndedStep, AnswerStep, SessionStep, SessionSteps}
 use Rattle.script_run.specs.SessionLineRuns.{Answered, AnswersTo}
-use Rattle.script_run.proofs.WantLemmas.{line_in}
+use Rattle.script_run.proofs.CauseLemmas.{Follows, all_follow, line_in}
 
-module _ (A B : Type 0) (follows : A → B) where
+module _ (A B : Causes) (follows : Follows A B) where
   pub word_in : (word : SessionWord) (old : Standing) (line : List ℕ) (printed : Printed) (new : Standing) → WordStep A word old line printed new → WordStep B word old line printed new
   word_in Save old line printed new step = step
   word_in SaveWithMore old line printed new step = step
@@ -23,7 +23,7 @@ module _ (A B : Type 0) (follows : A → B) where
   ended_in : (has_end : Bool) (old : Standing) (text : List ℕ) (printed : Printed) (new : Standing) → EndedStep A has_end old text printed new → EndedStep B has_end old text printed new
   ended_in false old text printed new step = step
   ended_in true old text printed new (inl step) = inl (word_in (session_word_of (without_return text)) old (without_return text) printed new step)
-  ended_in true old text printed new (inr (is, same, want)) = inr (is, same, follows want)
+  ended_in true old text printed new (inr (is, same, want)) = inr (is, same, follows.memory want)
 
   answer_in : (old : Standing) (line : SessionLine) (printed : Printed) (new : Standing) → AnswerStep A old line printed new → AnswerStep B old line printed new
   answer_in old line printed new (inl step) = inl step
@@ -52,5 +52,5 @@ module _ (A B : Type 0) (follows : A → B) where
   answers_in start end stop script script_now answers answers_now (Script fault written) (printed, done, reason, goes_on, written_is, taken) =
       (printed, answered_in start end script printed done, reason, goes_on, written_is, taken)
 
-pub session_whatever_cause : (Cause : Type 0) → (old : Standing) (lines : List SessionLine) (printed : List Printed) (new : Standing) → SessionSteps Cause old lines printed new → SessionSteps ⊤ old lines printed new
-session_whatever_cause Cause old lines printed new steps = session_in Cause ⊤ (λ _. tt) old lines printed new steps
+pub session_whatever_cause : (why : Causes) → (old : Standing) (lines : List SessionLine) (printed : List Printed) (new : Standing) → SessionSteps why old lines printed new → SessionSteps any_cause old lines printed new
+session_whatever_cause why old lines printed new steps = session_in why any_cause (all_follow why) old lines printed new steps

@@ -42,7 +42,7 @@ impl LiveVolume {
         ensures reads { IfOk result (λ b. HaveAgreed b.reads) }
         ensures refused { IfErr result
             (λ refused. IsPassFault size reading limits refused.read refused.failures
-            refused.fault) }
+            refused.ended refused.fault) }
         ensures memory { Rises (IsErrAnd result (λ e. e.fault ≡
             LoadFault.OutOfMemory)) room.old room.new }
     {

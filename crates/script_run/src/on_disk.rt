@@ -135,7 +135,7 @@ pub fn load_on_disk(
     ensures reads { IfOk result (λ bench. HaveAgreed bench.reads) }
     ensures refused { IfErr result (λ refused.
         IsPassFault size options.reading options.limits refused.read refused.failures
-        refused.fault) }
+        refused.ended refused.fault) }
     ensures memory { Rises (IsErrAnd result (λ e. e.fault ≡ LoadFault.OutOfMemory))
         room.old room.new }
 {

@@ -1,5 +1,5 @@
 -- Why a read was refused.
-use Rattle.std.specs.Prelude.{ℕ, ◌<◌}
+use Rattle.std.specs.Prelude.{ℕ, ◌≡◌, ◌⊎◌, ◌+◌, ◌<◌}
 use Rattle.base_file.specs.declared.read_fault.ReadFault.{ReadFault}
 use Rattle.base_file.specs.declared.read_fault.ReadFault.TheVariants.{ReadFailed, Changed, TooLarge}
 
@@ -9,3 +9,9 @@ abbrev pub IsFaultOfRead : (most n before now : ℕ) → ReadFault → Type 0
 IsFaultOfRead most n before now ReadFailed = before < now
 IsFaultOfRead most n before now TooLarge = most < n
 IsFaultOfRead most n before now Changed = ⊥
+
+-- a pass was to read some of the next n bytes, and has read none, where so many reads had failed and so many had given nothing:
+-- this one failed; or it gave nothing, where n is not 0, and is told as one that failed
+abbrev pub IsFaultOfPassRead : (n failures ended failures_now ended_now : ℕ) → ReadFault → Type 0
+IsFaultOfPassRead n failures ended failures_now ended_now fault =
+    ((failures_now ≡ failures + 1) × (ended_now ≡ ended)) ⊎ ((fault ≡ ReadFailed) × (0 < n) × (failures_now ≡ failures) × (ended_now ≡ ended + 1))

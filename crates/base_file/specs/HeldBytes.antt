@@ -48,7 +48,8 @@ after_pass OnPass = OnDisk true
 after_pass (OnDisk agreed) = OnDisk agreed
 
 -- bytes that were loaded and their standing, which of them were read last and from which place on, how many there is room
--- for, how many of the first and of the last ones are kept, and how many reads of them failed
+-- for, how many of the first and of the last ones are kept, how many reads of them failed, and how many reads of the pass over
+-- them gave nothing where some were to come
 pub record HeldBytes : Type 0 where
   pub bytes : List ℕ
   pub standing : Standing
@@ -58,8 +59,10 @@ pub record HeldBytes : Type 0 where
   pub front : ℕ
   pub back : ℕ
   pub failures : ℕ
+  pub ended : ℕ
 
--- the same bytes, with as much room, of which as many are kept, and which stand as they did or have fallen; no fewer reads failed
+-- the same bytes, with as much room, of which as many are kept, and which stand as they did or have fallen; no fewer reads
+-- failed, and the pass read no more
 pub record IsStill (old new : HeldBytes) : Type 0 where
   pub bytes : new.bytes ≡ old.bytes
   pub standing : Falls old.standing new.standing
@@ -67,8 +70,9 @@ pub record IsStill (old new : HeldBytes) : Type 0 where
   pub front : new.front ≡ old.front
   pub back : new.back ≡ old.back
   pub failures : old.failures ≤ new.failures
+  pub ended : new.ended ≡ old.ended
 
--- more bytes behind those that were there, which stand as they did; no fewer reads failed
+-- more bytes behind those that were there, which stand as they did; no fewer reads failed, and no fewer gave nothing
 pub record HasGrown (old new : HeldBytes) : Type 0 where
   pub begins : take (length old.bytes) new.bytes ≡ old.bytes
   pub standing : new.standing ≡ old.standing
@@ -78,6 +82,7 @@ pub record HasGrown (old new : HeldBytes) : Type 0 where
   pub front : new.front ≡ old.front
   pub back : new.back ≡ old.back
   pub failures : old.failures ≤ new.failures
+  pub ended : old.ended ≤ new.ended
 
 -- what is lent: the bytes themselves, or what was read last
 abbrev pub lent_by : Standing → (bytes room : List ℕ) (from at n : ℕ) → List ℕ

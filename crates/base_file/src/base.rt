@@ -16,6 +16,9 @@ pub trait Base {
     /// How many reads failed.
     ghost failures: { Self → ℕ };
 
+    /// How many reads of the pass that loaded them gave nothing where some were to come.
+    ghost ended: { Self → ℕ };
+
     /// How many there are.
     fn length(&self) -> u64
         ensures { result ≡ length (bytes self.now) };
@@ -36,5 +39,6 @@ pub trait Base {
 
         // It is refused where it failed, and counted then.
         ensures failures { MatchResult result (λ _. failures self.new ≡ failures self.old)
-            (λ fault. (fault ≡ ReadFailed) × (failures self.new ≡ failures self.old + 1)) };
+            (λ fault. (fault ≡ ReadFailed) × (failures self.new ≡ failures self.old + 1)) }
+        ensures ended { ended self.new ≡ ended self.old };
 }

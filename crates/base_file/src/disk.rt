@@ -4,7 +4,7 @@ ghost use Rattle.base_file.specs.declared.read_fault.ReadFault.TheVariants.{Read
 ghost use Rattle.base_file.specs.Seen.{joined, all_as};
 
 use crate::base::Base;
-use crate::log::Log;
+use crate::log::{Log, Logs};
 use crate::read_fault::ReadFault;
 use std::os::unix::fs::FileExt;
 
@@ -14,51 +14,53 @@ use std::os::unix::fs::FileExt;
 pub struct Disk<F> {
     file: F,
     size: u64,
-    first: Log,
+    logs: Logs,
     later: Log,
-    failed: Log,
-    ghost counted: { length (joined first.events) ≡ size },
+    ghost counted: { length (joined logs.first.events) ≡ size },
     ghost small: { size ≤ 2 ^ 62 },
 }
 
 impl<F> Disk<F> {
-    ghost use Rattle.base_file.specs.Disks.{bytes_of, failures_of, is_agreed};
+    ghost use Rattle.base_file.specs.Disks.{bytes_of, ended_of, failures_of, is_agreed};
 
-    // A file of which a pass has read so many bytes, and which was not read since; with the reads
-    // that failed.
-    pub(crate) fn new(file: F, size: u64, first: Log, failed: Log) -> Disk<F>
-        requires counted { length (joined first.events) ≡ size }
+    // A file of which a pass has read so many bytes, and which was not read since; with what its
+    // reads gave.
+    pub(crate) fn new(file: F, size: u64, logs: Logs) -> Disk<F>
+        requires counted { length (joined logs.first.events) ≡ size }
         requires small { size ≤ 2 ^ 62 }
-        ensures bytes { bytes_of result ≡ joined first.events }
+        ensures bytes { bytes_of result ≡ joined logs.first.events }
         ensures agreed { IsTrue (is_agreed result) }
-        ensures failures { failures_of result ≡ length failed.events }
+        ensures failures { failures_of result ≡ length logs.failed.events }
+        ensures ended { ended_of result ≡ length logs.ended.events }
     {
         Disk {
             file,
             size,
-            first,
+            logs,
             later: Log::new(),
-            failed,
         }
     }
 
-    // What the pass gave, and the reads that failed.
-    pub(crate) fn into_logs(self) -> (Log, Log)
+    // What the reads of the pass gave, with all reads that failed.
+    pub(crate) fn into_logs(self) -> Logs
     where
         F: Drop,
-        ensures bytes { joined result.0.events ≡ bytes_of self }
-        ensures failures { length result.1.events ≡ failures_of self }
+        ensures bytes { joined result.first.events ≡ bytes_of self }
+        ensures failures { length result.failed.events ≡ failures_of self }
+        ensures ended { length result.ended.events ≡ ended_of self }
     {
-        (self.first, self.failed)
+        self.logs
     }
 }
 
 impl<F: FileExt> Base for Disk<F> {
-    ghost bytes = { λ d. joined d.first.events };
+    ghost bytes = { λ d. joined d.logs.first.events };
 
-    ghost agreed = { λ d. all_as (joined d.first.events) d.later.events };
+    ghost agreed = { λ d. all_as (joined d.logs.first.events) d.later.events };
 
-    ghost failures = { λ d. length d.failed.events };
+    ghost failures = { λ d. length d.logs.failed.events };
+
+    ghost ended = { λ d. length d.logs.ended.events };
 
     fn length(&self) -> u64 {
         self.size
@@ -66,7 +68,7 @@ impl<F: FileExt> Base for Disk<F> {
 
     fn read(&mut self, at: u64, out: &mut [u8]) -> Result<(), ReadFault> {
         if let Err(fault) = fill(&self.file, at, out) {
-            self.failed.note(&[at], &[]);
+            self.logs.failed.note(&[at], &[]);
             return Err(fault);
         }
         self.later.note(&[at], out);

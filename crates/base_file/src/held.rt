@@ -4,7 +4,7 @@ ghost use Rattle.std.specs.Prelude.{◌≡◌, ◌+◌, ◌-◌, ◌≤◌, ◌<
 use crate::base::Base;
 use crate::disk::Disk;
 use crate::loading::Loading;
-use crate::log::Log;
+use crate::log::Logs;
 use crate::memory::Memory;
 use crate::read_fault::ReadFault;
 use crate::room::{Room, part};
@@ -15,8 +15,8 @@ use std::marker::Model;
 
 /// The bytes under a volume, in memory or on disk, with room for what is lent of them: a clause
 /// sees those that were loaded and their standing, which of them were read last, how many there is
-/// room for, how many of the first and of the last ones are kept, and how many reads failed. Places
-/// count from 0.
+/// room for, how many of the first and of the last ones are kept, how many reads failed, and how
+/// many of the pass gave nothing where some were to come. Places count from 0.
 #[derive(Drop)]
 pub struct Held {
     source: Source,
@@ -40,8 +40,8 @@ impl Model for Held {
 }
 
 impl Held {
-    ghost use Rattle.base_file.specs.Disks.{bytes_of, failures_of, is_agreed};
-    ghost use Rattle.base_file.specs.Faults.{IsFaultOfRead};
+    ghost use Rattle.base_file.specs.Disks.{bytes_of, ended_of, failures_of, is_agreed};
+    ghost use Rattle.base_file.specs.Faults.{IsFaultOfPassRead, IsFaultOfRead};
     ghost use Rattle.base_file.specs.Seen.{joined};
     ghost use Rattle.base_file.specs.HeldBytes.{InMemory, OnDisk, OnPass, after_pass, HasGrown, IsInMemory, IsStill, IsSure, AreThere, lent_of};
 
@@ -52,6 +52,7 @@ impl Held {
         ensures front { result.front ≡ length bytes.items }
         ensures back { result.back ≡ length bytes.items }
         ensures failures { result.failures ≡ 0 }
+        ensures ended { result.ended ≡ 0 }
     {
         Held {
             source: Source::Memory(Memory { bytes }),
@@ -74,6 +75,7 @@ impl Held {
         ensures front { result.front ≡ length front.items }
         ensures back { result.back ≡ length back.items }
         ensures failures { result.failures ≡ failures_of disk }
+        ensures ended { result.ended ≡ ended_of disk }
     {
         Held {
             source: Source::Disk(disk),
@@ -89,6 +91,7 @@ impl Held {
         ensures bytes { result.bytes ≡ [] }
         ensures standing { result.standing ≡ OnPass }
         ensures failures { result.failures ≡ 0 }
+        ensures ended { result.ended ≡ 0 }
     {
         Held {
             source: Source::Pass(Loading::new(file)),
@@ -100,22 +103,19 @@ impl Held {
 
     /// The next bytes of a file that is being read, into the front of the block: how many, and 0
     /// only where the block is empty; 0 where the bytes are in memory, or the pass has ended. Takes
-    /// no memory. Refused where the file failed or has no more bytes, and where there are more than
-    /// 2^62; the pass then stands where it stood, with one failed read more.
+    /// no memory. Refused where the file failed, or there are more than 2^62 bytes, with one failed
+    /// read more; and where it gave none, which counts apart. The pass then stands where it stood.
     pub fn read_on(&mut self, block: &mut [u8]) -> Result<usize, ReadFault>
         ensures fits { IfOk result (λ n. n ≤ length block.new) }
         ensures some { IfOk result (λ n. self.old.standing ≡ OnPass → 0 < length block.new →
             0 < n) }
+        ensures grown { HasGrown self.old self.new }
         ensures bytes { IfOk result (λ n. self.new.bytes ≡ self.old.bytes ++ take n block.new) }
         ensures failed { OnErr result (self.new.bytes ≡ self.old.bytes) }
-        ensures standing { self.new.standing ≡ self.old.standing }
-        ensures room { self.new.room ≡ self.old.room }
-        ensures from { self.new.from ≡ self.old.from }
-        ensures most { self.new.most ≡ self.old.most }
-        ensures front { self.new.front ≡ self.old.front }
-        ensures back { self.new.back ≡ self.old.back }
-        ensures failures { MatchResult result (λ _. self.new.failures ≡ self.old.failures)
-            (λ _. self.new.failures ≡ self.old.failures + 1) }
+        ensures failures { OnOk result (self.new.failures ≡ self.old.failures) }
+        ensures ended { OnOk result (self.new.ended ≡ self.old.ended) }
+        ensures fault { IfErr result (IsFaultOfPassRead (length block.new)
+            self.old.failures self.old.ended self.new.failures self.new.ended) }
     {
         match &mut self.source {
             Source::Pass(loading) => loading.more(block),
@@ -125,7 +125,7 @@ impl Held {
 
     /// Whether a file that is being read has no more bytes; true where the bytes are in memory, or
     /// the pass has ended. Takes no memory. Refused where the file failed, and where there are more
-    /// than 2^62 bytes.
+    /// than 2^62 bytes. A read that finds the end here is not counted: none was to come.
     pub fn is_at_end(&mut self) -> Result<bool, ReadFault>
         ensures grown { HasGrown self.old self.new }
         ensures end { IfOk result (λ end. IsTrue end → self.new.bytes ≡ self.old.bytes) }
@@ -133,6 +133,7 @@ impl Held {
             length self.old.bytes < length self.new.bytes) }
         ensures failures { MatchResult result (λ _. self.new.failures ≡ self.old.failures)
             (λ _. self.new.failures ≡ self.old.failures + 1) }
+        ensures ended { self.new.ended ≡ self.old.ended }
     {
         let mut byte = [0];
         match &mut self.source {
@@ -157,6 +158,7 @@ impl Held {
         ensures front { ¬ IsInMemory self.standing → result.front ≡ length front.items }
         ensures back { ¬ IsInMemory self.standing → result.back ≡ length back.items }
         ensures failures { result.failures ≡ self.failures }
+        ensures ended { result.ended ≡ self.ended }
     {
         let Held {
             source,
@@ -176,12 +178,13 @@ impl Held {
         }
     }
 
-    /// What the pass over the file gave, and the reads that failed, the file itself given back:
-    /// clauses see its bytes, and how many failed. Takes no memory.
-    pub fn into_logs(self) -> (Log, Log)
+    /// What the reads of the file gave, the file itself given back: clauses see the bytes of the
+    /// pass, how many reads failed, and how many of the pass gave nothing. Takes no memory.
+    pub fn into_logs(self) -> Logs
         requires { ¬ IsInMemory self.standing }
-        ensures bytes { joined result.0.events ≡ self.bytes }
-        ensures failures { length result.1.events ≡ self.failures }
+        ensures bytes { joined result.first.events ≡ self.bytes }
+        ensures failures { length result.failed.events ≡ self.failures }
+        ensures ended { length result.ended.events ≡ self.ended }
     {
         let Held {
             source,

@@ -7,7 +7,8 @@
 //! how much it gave, that it ends, and what stays the same, in any case; of bytes in memory nothing
 //! is open. How many reads of a file failed is counted, for clauses alone (`failures`): only those
 //! that the file was asked for count. A read is refused where one failed, or where more is asked
-//! for than there is room for, which counts as none.
+//! for than there is room for, which counts as none. A read of the pass that gave nothing, where
+//! some bytes were to come, has not failed, and is counted apart (`ended`): the file ends there.
 //!
 //! `Held` is the one of the two that a volume stands on, with room for what is lent; its `Standing`
 //! says which. What is to be seen is read first (`fetch`), and lent then (`lent`); what was read
@@ -32,7 +33,7 @@ pub use crate::base::Base;
 pub use crate::disk::Disk;
 pub use crate::held::Held;
 pub use crate::loading::Loading;
-pub use crate::log::Log;
+pub use crate::log::{Log, Logs};
 pub use crate::memory::Memory;
 pub use crate::read_fault::ReadFault;
 

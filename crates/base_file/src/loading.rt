@@ -1,9 +1,10 @@
 // The one pass that loads a file which stays on disk.
-ghost use Rattle.std.specs.Prelude.{◌≡◌, ◌+◌, ◌≤◌, ◌<◌, ◌^◌, ◌++◌, [], length, take, IfOk, MatchResult, OnErr, IsTrue};
+ghost use Rattle.std.specs.Prelude.{◌≡◌, ◌≤◌, ◌<◌, ◌^◌, [], length, IfErr, IfOk, MatchResult, OnErr, IsTrue};
+ghost use Rattle.base_file.specs.Faults.{IsFaultOfPassRead};
 ghost use Rattle.base_file.specs.Seen.{joined};
 
 use crate::disk::Disk;
-use crate::log::Log;
+use crate::log::Logs;
 use crate::read_fault::ReadFault;
 use std::os::unix::fs::FileExt;
 
@@ -15,25 +16,24 @@ const MOST: u64 = 1 << 62;
 pub struct Loading<F> {
     file: F,
     size: u64,
-    first: Log,
-    failed: Log,
-    ghost counted: { length (joined first.events) ≡ size },
+    logs: Logs,
+    ghost counted: { length (joined logs.first.events) ≡ size },
     ghost small: { size ≤ 2 ^ 62 },
 }
 
 impl<F: FileExt> Loading<F> {
-    ghost use Rattle.base_file.specs.Disks.{bytes_so_far, bytes_of, failures_of, failures_so_far, is_agreed};
+    ghost use Rattle.base_file.specs.Disks.{bytes_so_far, bytes_of, ended_of, ended_so_far, failures_of, failures_so_far, is_agreed, HasFailed, HasRead, HasStayed};
 
     /// At the front of the file. Takes no memory.
     pub fn new(file: F) -> Loading<F>
         ensures bytes { bytes_so_far result ≡ [] }
         ensures failures { failures_so_far result ≡ 0 }
+        ensures ended { ended_so_far result ≡ 0 }
     {
         Loading {
             file,
             size: 0,
-            first: Log::new(),
-            failed: Log::new(),
+            logs: Logs::new(),
         }
     }
 
@@ -41,13 +41,8 @@ impl<F: FileExt> Loading<F> {
     /// is empty. Takes no memory. Refused where the file failed, and where there are more than 2^62
     /// bytes; the pass then stands where it stood, with one failed read more.
     pub fn next(&mut self, block: &mut [u8]) -> Result<usize, ReadFault>
-        ensures bound { IfOk result (λ n. n ≤ length block.new) }
-        ensures bytes { IfOk result (λ n. bytes_so_far self.new
-            ≡ bytes_so_far self.old ++ take n block.new) }
-        ensures failed { OnErr result (bytes_so_far self.new ≡ bytes_so_far self.old) }
-        ensures failures { MatchResult result
-            (λ _. failures_so_far self.new ≡ failures_so_far self.old)
-            (λ _. failures_so_far self.new ≡ failures_so_far self.old + 1) }
+        ensures { MatchResult result (HasRead self.old self.new block.new)
+            (λ _. HasFailed self.old self.new) }
     {
         let Ok(count) = self.file.read_at(block, self.size) else {
             return Err(self.note_failure(ReadFault::ReadFailed));
@@ -55,38 +50,37 @@ impl<F: FileExt> Loading<F> {
         if count as u64 > MOST - self.size {
             return Err(self.note_failure(ReadFault::TooLarge));
         }
-        self.first.note(&[self.size], &block[..count]);
+        self.logs.first.note(&[self.size], &block[..count]);
         self.size += count as u64;
         Ok(count)
     }
 
     /// The next bytes, of which there are to be some: how many, and 0 only where the block is
-    /// empty. Refused as `next`, and at the end. Takes no memory.
+    /// empty. Refused as `next`, and at the end, where no read has failed: that it gave nothing is
+    /// noted apart. Takes no memory.
     pub fn more(&mut self, block: &mut [u8]) -> Result<usize, ReadFault>
-        ensures bound { IfOk result (λ n. n ≤ length block.new) }
+        ensures read { IfOk result (HasRead self.old self.new block.new) }
         ensures some { IfOk result (λ n. 0 < length block.new → 0 < n) }
-        ensures bytes { IfOk result (λ n. bytes_so_far self.new
-            ≡ bytes_so_far self.old ++ take n block.new) }
-        ensures failed { OnErr result (bytes_so_far self.new ≡ bytes_so_far self.old) }
-        ensures failures { MatchResult result
-            (λ _. failures_so_far self.new ≡ failures_so_far self.old)
-            (λ _. failures_so_far self.new ≡ failures_so_far self.old + 1) }
+        ensures stayed { OnErr result (HasStayed self.old self.new) }
+        ensures fault { IfErr result (IsFaultOfPassRead (length block.new)
+            (failures_so_far self.old) (ended_so_far self.old)
+            (failures_so_far self.new) (ended_so_far self.new)) }
     {
         let count = self.next(block)?;
         if count == 0 && !block.is_empty() {
-            return Err(self.note_failure(ReadFault::ReadFailed));
+            self.logs.ended.note(&[self.size], &[]);
+            return Err(ReadFault::ReadFailed);
         }
         Ok(count)
     }
 
-    // A read of the file failed, or gave none or more bytes than can be counted: it counts as one
-    // that failed for this reason, which is given back.
+    // A read of the file failed, or gave more bytes than can be counted: it counts as one that
+    // failed for this reason, which is given back.
     fn note_failure(&mut self, fault: ReadFault) -> ReadFault
         ensures fault { result ≡ fault }
-        ensures bytes { bytes_so_far self.new ≡ bytes_so_far self.old }
-        ensures failures { failures_so_far self.new ≡ failures_so_far self.old + 1 }
+        ensures failed { HasFailed self.old self.new }
     {
-        self.failed.note(&[self.size], &[]);
+        self.logs.failed.note(&[self.size], &[]);
         fault
     }
 
@@ -97,14 +91,15 @@ impl<F: FileExt> Loading<F> {
         self.size
     }
 
-    // What the pass gave so far, and the reads that failed.
-    pub(crate) fn into_logs(self) -> (Log, Log)
+    // What the reads of the pass gave so far.
+    pub(crate) fn into_logs(self) -> Logs
     where
         F: Drop,
-        ensures bytes { joined result.0.events ≡ bytes_so_far self }
-        ensures failures { length result.1.events ≡ failures_so_far self }
+        ensures bytes { joined result.first.events ≡ bytes_so_far self }
+        ensures failures { length result.failed.events ≡ failures_so_far self }
+        ensures ended { length result.ended.events ≡ ended_so_far self }
     {
-        (self.first, self.failed)
+        self.logs
     }
 
     /// The file as it was read so far. Takes no memory.
@@ -112,13 +107,9 @@ impl<F: FileExt> Loading<F> {
         ensures bytes { bytes_of result ≡ bytes_so_far self }
         ensures agreed { IsTrue (is_agreed result) }
         ensures failures { failures_of result ≡ failures_so_far self }
+        ensures ended { ended_of result ≡ ended_so_far self }
     {
-        let Loading {
-            file,
-            size,
-            first,
-            failed,
-        } = self;
-        Disk::new(file, size, first, failed)
+        let Loading { file, size, logs } = self;
+        Disk::new(file, size, logs)
     }
 }

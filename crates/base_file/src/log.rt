@@ -6,8 +6,9 @@ ghost use Rattle.base_file.specs.Seen.{Seen, seen_of};
 use std::marker::{Model, PhantomData};
 
 /// What reads gave, the last one first: only clauses see it, and it takes no memory. Only the reads
-/// of `Loading` and `Disk` note, each what it gave, and where, those that failed in a list of their
-/// own: the file was asked each time. Their two calls here, which do nothing, are proved by hand.
+/// of `Loading` and `Disk` note, each what it gave, and where, those that failed or gave nothing in
+/// lists of their own: the file was asked each time. Their two calls here, which do nothing, are
+/// proved by hand.
 #[derive(Drop)]
 pub struct Log {
     marker: PhantomData<u8>,
@@ -32,4 +33,28 @@ impl Log {
     pub(crate) fn note(&mut self, _numbers: &[u64], _bytes: &[u8])
         ensures { self.new.events ≡ seen_of _numbers.now _bytes.now ∷ self.old.events }
     {}
+}
+
+/// What the reads of a pass over a file gave, and beside them those that failed, and those that
+/// gave nothing where some were to come.
+#[derive(Drop)]
+pub struct Logs {
+    pub first: Log,
+    pub failed: Log,
+    pub ended: Log,
+}
+
+impl Logs {
+    /// No reads.
+    pub fn new() -> Logs
+        ensures first { result.first.events ≡ [] }
+        ensures failed { result.failed.events ≡ [] }
+        ensures ended { result.ended.events ≡ [] }
+    {
+        Logs {
+            first: Log::new(),
+            failed: Log::new(),
+            ended: Log::new(),
+        }
+    }
 }

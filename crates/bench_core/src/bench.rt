@@ -122,9 +122,10 @@ impl Bench {
         ensures limits { IfOk result (λ b. b.state.limits ≡ limits) }
         ensures place { IfOk result (λ b. b.state.on_disk ≡ true) }
         ensures reads { IfOk result (λ b. HaveAgreed b.reads) }
+        ensures unfailed { IfOk result (λ b. b.reads.failures ≡ 0) }
         ensures refused { IfErr result
             (λ refused. IsPassFault size reading limits refused.read refused.failures
-            refused.fault) }
+            refused.ended refused.fault) }
         ensures memory { Rises (IsErrAnd result (λ e. e.fault ≡
             LoadFault.OutOfMemory)) room.old room.new }
     {

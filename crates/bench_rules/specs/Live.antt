@@ -1,5 +1,5 @@
 -- What a volume's running reports and kept slices hold, whatever edits there were: what its traces give as they are now.
-use Rattle.std.specs.Prelude.{◌≡◌, ℕ, ℤ, Bool, List, map, Option, Result, Ok, Err}
+use Rattle.std.specs.Prelude.{◌≡◌, ℕ, ℤ, List, map, Option, Result, Ok, Err}
 use Rattle.edit_overlay.specs.Reads.{Reads}
 use Rattle.trace_record.specs.Facts.{facts_of}
 use Rattle.trace_record.specs.declared.record.Record.{Record}

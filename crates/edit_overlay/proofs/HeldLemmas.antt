@@ -5,10 +5,11 @@ use Rattle.base_file.proofs.HeldLemmas.{Falls-refl}
 use Rattle.frame_cut.specs.Volume.{Volume, bytes_of}
 use Rattle.trace_store.specs.Ahead.{traces_ahead}
 use Rattle.edit_overlay.specs.CountedVolume.{CountedVolume, with_reads}
-use Rattle.edit_overlay.specs.Held.{looked_of, volume_ahead, volume_with, IsHeld, IsReread}
+use Rattle.edit_overlay.specs.Held.{looked_of, volume_ahead, volume_with, IsHeld}
 use Rattle.edit_overlay.specs.Loaded.{Loaded}
 use Rattle.edit_overlay.specs.Standings.{loaded_in, reads_in}
 use Rattle.edit_overlay.specs.Reads.{Reads}
+use Rattle.trace_store.specs.Reread.{IsReread}
 use Rattle.trace_store.specs.Stores.{payloads_ahead, payloads_of, traces_of}
 use Rattle.trace_store.specs.declared.prepared.Prepared.{Prepared}
 use Rattle.trace_store.specs.declared.store.TraceStore.{TraceStore}
@@ -91,7 +92,7 @@ same_loaded b b' d d' e f = cc
 
 module _ {T : Type 0} (o : Inside T) (t : TraceStore T) (reread : IsReread o.laid.store t) where
   pub same_reread : IsSame o.laid.store t
-  same_reread = same_fetched o.laid.store t reread.head reread.order reread.slots reread.loaded
+  same_reread = same_fetched o.laid.store t reread
 
   volume_reread : volume_with o.text o.bin o.tail t ≡ volume_with o.text o.bin o.tail o.laid.store
   volume_reread = rw (reread.head, reread.order, reread.slots, reread.loaded.bytes) refl

@@ -1,5 +1,5 @@
 -- What an overlay is after a look, and what the view shows.
-use Rattle.std.proofs.Common.{◌≡◌, ℕ, ◌-◌, List, [], length, ap, ◌∙◌, subst, IsTrue, Option, Result, Err}
+use Rattle.std.proofs.Common.{◌≡◌, ℕ, ◌-◌, List, [], length, ap, ◌∙◌, subst, IsTrue, Option, Some, None, Result, Err}
 use Rattle.std.specs.Prelude.{slice_index_or, IsOk}
 use Rattle.base_file.specs.HeldBytes.{IsInMemory, IsSure}
 use Rattle.base_file.specs.declared.read_fault.ReadFault.{ReadFault}
@@ -7,12 +7,14 @@ use Rattle.frame_cut.specs.Volume.{Volume}
 use Rattle.trace_view.specs.declared.view.TraceView.{TraceView}
 use Rattle.trace_view.specs.Shown.{head_of, bytes_of}
 use Rattle.trace_store.specs.declared.prepared.Prepared.{Prepared}
+use Rattle.trace_store.specs.declared.store.TraceStore.{TraceStore}
 use Rattle.trace_store.specs.Ahead.{traces_ahead}
-use Rattle.trace_store.specs.Faults.{IsFaultOfFetch}
+use Rattle.trace_store.specs.Faults.{IsFaultOf}
+use Rattle.trace_store.specs.Reread.{IsReread}
 use Rattle.trace_store.specs.Stores.{traces_of}
 use Rattle.trace_store.proofs.AheadLemmas.{ahead_kept}
 use Rattle.edit_overlay.specs.CountedVolume.{CountedVolume, after_look, with_reads, HasShapeOf}
-use Rattle.edit_overlay.specs.Held.{looked_of, CanLend, IsReread}
+use Rattle.edit_overlay.specs.Held.{looked_of, CanLend, HasChangedAhead}
 use Rattle.edit_overlay.specs.Looks.{HasMissed, HasShown}
 use Rattle.edit_overlay.specs.Reads.{Follow, IsFaultOfLook}
 use Rattle.edit_overlay.specs.Standings.{reads_in}
@@ -20,6 +22,11 @@ use Rattle.edit_overlay.specs.declared.laid.Laid.{Laid}
 use Rattle.edit_overlay.specs.declared.overlay.Overlay.TheInside.{Inside}
 use Rattle.edit_overlay.proofs.HeldLemmas.{same_reread, shown_relaid}
 use Rattle.edit_overlay.proofs.StandingLemmas.{fault_told, on_disk_else, reads_follow, refused_in_memory, sure_is}
+
+-- a trace that has changed was not read as it was loaded
+pub unsure_ahead : {T : Type 0} (s : TraceStore T) (p : ℕ) (prepared : Option Prepared) → HasChangedAhead s p prepared → ¬ IsSure s.loaded.standing
+unsure_ahead s p None changed = changed.unsure
+unsure_ahead s p (Some prepared) changed = changed.unsure
 
 -- the look was counted, and then the loaded bytes were read
 module _ {T : Type 0} (o : CountedVolume T) (i : Inside T) (l : Laid T) (reread : IsReread i.laid.store l.store) (kept : l.prepared ≡ i.laid.prepared) (counted : looked_of i ≡ after_look o o.reads) where
@@ -32,11 +39,11 @@ module _ {T : Type 0} (o : CountedVolume T) (i : Inside T) (l : Laid T) (reread 
   reads_on = subst (λ (x : CountedVolume T). Follow x.reads (reads_in l.store.loaded)) counted (reads_follow i.laid.store.loaded l.store.loaded reread.loaded)
 
   -- where the look was refused
-  pub has_missed : (fault : ReadFault) → CanLend i.laid.store.loaded → IsFaultOfFetch i.laid.store.loaded l.store.loaded fault → HasMissed o (looked_of (record i { laid = l })) fault
-  has_missed fault lends told = record {
+  pub has_missed : {HasChanged : Type 0} (fault : ReadFault) → CanLend i.laid.store.loaded → (HasChanged → ¬ IsSure l.store.loaded.standing) → IsFaultOf HasChanged i.laid.store.loaded l.store.loaded fault → HasMissed o (looked_of (record i { laid = l })) fault
+  has_missed fault lends changed told = record {
     looked = looked_so;
     reads = reads_on;
-    fault = subst (λ (x : CountedVolume T). IsFaultOfLook x.reads (reads_in l.store.loaded) fault) counted (fault_told i.laid.store.loaded l.store.loaded fault lends told);
+    fault = subst (λ (x : CountedVolume T). IsFaultOfLook x.reads (reads_in l.store.loaded) fault) counted (fault_told i.laid.store.loaded l.store.loaded fault lends changed told);
   }
 
   -- the head and the traces are those of the volume

@@ -12,13 +12,12 @@ use Rattle.slab.specs.Slab.{get}
 use Rattle.base_file.specs.HeldBytes.{HeldBytes, IsStill, IsSure}
 use Rattle.base_file.specs.declared.read_fault.ReadFault.{ReadFault}
 use Rattle.base_file.specs.declared.read_fault.ReadFault.TheVariants.{ReadFailed, Changed, TooLarge}
-use Rattle.base_file.proofs.HeldLemmas.{sure_before, IsStill-refl, IsStill-trans}
+use Rattle.base_file.proofs.HeldLemmas.{sure_before}
 use Rattle.trace_seq.proofs.TimeLemmas.{times-get}
 use Rattle.trace_store.specs.declared.store.TraceStore.{TraceStore}
 use Rattle.trace_store.specs.declared.slot.Slot.{Slot}
 use Rattle.trace_store.specs.Slots.{bytes_in, bytes_under, IsSlot}
 use Rattle.trace_store.specs.Stores.{traces_of}
-use Rattle.trace_store.proofs.FallLemmas.{same_fetched}
 use Rattle.edit_overlay.specs.declared.save_fault.SaveFault.{SaveFault}
 use Rattle.edit_overlay.specs.declared.waiting.Waiting.{Waiting}
 use Rattle.frame_cut.specs.declared.extent.Extent.{Extent}
@@ -28,7 +27,8 @@ use Rattle.frame_cut.specs.Heads.{blocks_of}
 use Rattle.frame_cut.specs.Layout.{bytes_at, tail_at}
 use Rattle.frame_cut.specs.Volume.{bytes_of}
 use Rattle.frame_cut.proofs.BlockLemmas.{concat-blocks_of}
-use Rattle.edit_overlay.specs.Held.{HasEnds, volume_with, IsReread}
+use Rattle.edit_overlay.specs.Held.{HasEnds, volume_with}
+use Rattle.trace_store.specs.Reread.{IsReread}
 use Rattle.edit_overlay.specs.Saving.{Progress, HasCome, GoesOn, IsUnread, Saves, progress}
 use Rattle.edit_overlay.specs.Reads.{IsFaultOfLook}
 use Rattle.edit_overlay.specs.Standings.{is_on_disk, reads_in}
@@ -169,28 +169,10 @@ module _ {T : Type 0} where
 -- ---- the loaded bytes are read again
 
 module _ {T : Type 0} where
-  pub IsReread-refl : (s : TraceStore T) → IsReread s s
-  IsReread-refl s = record { head = refl; order = refl; slots = refl; loaded = IsStill-refl s.loaded }
-
-  pub IsReread-trans : (s t u : TraceStore T) → IsReread s t → IsReread t u → IsReread s u
-  IsReread-trans s t u first second = record {
-    head = second.head ∙ first.head;
-    order = second.order ∙ first.order;
-    slots = second.slots ∙ first.slots;
-    loaded = IsStill-trans s.loaded t.loaded u.loaded first.loaded second.loaded;
-  }
-
-  pub traces_reread : (s t : TraceStore T) → IsReread s t → traces_of t ≡ traces_of s
-  traces_reread s t reread = (same_fetched s t reread.head reread.order reread.slots reread.loaded).traces
-
   pub trace_reread : (s t : TraceStore T) (at : ℕ) → IsReread s t → get_or (traces_of t) (at + 1 - 1) [] ≡ get_or (traces_of s) at []
   trace_reread s t at reread =
       let here : at + 1 - 1 ≡ at = omega arith in
-      ap (λ (ts : List (List ℕ)). get_or ts (at + 1 - 1) []) (traces_reread s t reread) ∙ ap (λ (i : ℕ). get_or (traces_of s) i []) here
-
-  -- a store that read a trace
-  pub fetched_twice : (s t u : TraceStore T) → IsReread s t → u.head ≡ t.head → u.order ≡ t.order → u.slots ≡ t.slots → IsStill t.loaded u.loaded → IsReread s u
-  fetched_twice s t u first head order slots still = IsReread-trans s t u first (record { head = head; order = order; slots = slots; loaded = still })
+      ap (λ (ts : List (List ℕ)). get_or ts (at + 1 - 1) []) reread.traces ∙ ap (λ (i : ℕ). get_or (traces_of s) i []) here
 
   -- what is sure was sure before
   pub sure_then : (s t : TraceStore T) → IsReread s t → IsSure t.loaded.standing → IsSure s.loaded.standing

@@ -9,7 +9,7 @@ use Rattle.base_file.specs.declared.read_fault.ReadFault.TheVariants.{ReadFailed
 use Rattle.base_file.proofs.HeldLemmas.{memory_stays, sure_before}
 use Rattle.frame_cut.specs.Traces.{count_of, is_trace}
 use Rattle.frame_cut.specs.Volume.{Volume}
-use Rattle.trace_store.specs.Faults.{IsFaultOfFetch}
+use Rattle.trace_store.specs.Faults.{IsFaultOf}
 use Rattle.edit_overlay.specs.Held.{CanLend}
 use Rattle.edit_overlay.specs.Reads.{Follow, IsFaultOfLook}
 use Rattle.edit_overlay.specs.Standings.{is_on_disk, is_sure, reads_in}
@@ -81,10 +81,10 @@ lends_still old new still lends = record {
 }
 
 -- two words for the same: why a look was refused
-pub fault_told : (old new : HeldBytes) (fault : ReadFault) → CanLend old → IsFaultOfFetch old new fault → IsFaultOfLook (reads_in old) (reads_in new) fault
-fault_told old new ReadFailed lends told = told
-fault_told old new TooLarge lends told = absurd (lends.passed told)
-fault_told old new Changed lends told = λ sure. told (sure_is new.standing sure)
+pub fault_told : {HasChanged : Type 0} (old new : HeldBytes) (fault : ReadFault) → CanLend old → (HasChanged → ¬ IsSure new.standing) → IsFaultOf HasChanged old new fault → IsFaultOfLook (reads_in old) (reads_in new) fault
+fault_told old new ReadFailed lends changed told = told
+fault_told old new TooLarge lends changed told = absurd (lends.passed told)
+fault_told old new Changed lends changed told = λ sure. changed told (sure_is new.standing sure)
 
 -- n bytes, as many as can be lent, were not read: a read failed
 pub piece_told : {T : Type 0} (r : Result T ReadFault) (old new : HeldBytes) (n : ℕ) (fault : ReadFault) → r ≡ Err fault → ((IsInMemory old.standing → ⊥) → n ≤ old.most) → (IsInMemory old.standing → IsOk r)

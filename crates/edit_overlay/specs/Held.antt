@@ -1,6 +1,6 @@
 -- How an overlay holds a volume: its headers beside the loaded file, and the traces over it.
 use Rattle.std.specs.Prelude.{◌≡◌, ◌+◌, ◌-◌, ◌*◌, ◌<◌, ◌≤◌, List, ℕ, length, drop, Option, Some, None}
-use Rattle.base_file.specs.HeldBytes.{HeldBytes, OnPass, IsInMemory, IsStill}
+use Rattle.base_file.specs.HeldBytes.{HeldBytes, OnPass, IsInMemory}
 use Rattle.text_block.specs.declared.block.TheConstants.{TEXT_BLOCK_BYTES}
 use Rattle.frame_cut.specs.declared.sizes.TheConstants.{BINARY_HEADER_BYTES, FILE_HEADER_BYTES}
 use Rattle.frame_cut.specs.Heads.{blocks_of}
@@ -9,7 +9,7 @@ use Rattle.frame_cut.specs.Volume.{Volume, bytes_of}
 use Rattle.trace_store.specs.Ahead.{traces_ahead, IsReadyIfSome}
 use Rattle.edit_overlay.specs.CountedVolume.{CountedVolume}
 use Rattle.edit_overlay.specs.Standings.{loaded_in, reads_in}
-use Rattle.trace_store.specs.Fetched.{IsFetched, IsFetchedThen}
+use Rattle.trace_store.specs.Fetched.{HasChanged, HasChangedThen, IsFetched, IsFetchedThen}
 use Rattle.trace_store.specs.declared.prepared.Prepared.{Prepared}
 use Rattle.trace_store.specs.Stores.{payloads_ahead, payloads_of, traces_of}
 use Rattle.trace_store.specs.declared.store.TraceStore.{TraceStore}
@@ -51,13 +51,6 @@ pub record HasEnds {T : Type 0} (s : TraceStore T) (n : ℕ) : Type 0 where
   pub front_kept : s.head.traces_at ≤ s.loaded.front
   pub back_kept : TEXT_BLOCK_BYTES * s.head.trailer ≤ s.loaded.back
 
--- the same store, whose loaded bytes were read again: they stand as they did, or have fallen
-pub record IsReread {T : Type 0} (old new : TraceStore T) : Type 0 where
-  pub head : new.head ≡ old.head
-  pub order : new.order ≡ old.order
-  pub slots : new.slots ≡ old.slots
-  pub loaded : IsStill old.loaded new.loaded
-
 -- the pass over the loaded bytes has ended; and where they stay on disk, there is room for one at least
 pub record CanLend (loaded : HeldBytes) : Type 0 where
   pub passed : ¬ (loaded.standing ≡ OnPass)
@@ -76,3 +69,8 @@ pub record IsHeld {T : Type 0} (o : Inside T) : Type 0 where
 abbrev pub IsFetchedAhead : {T : Type 0} → TraceStore T → ℕ → Option Prepared → Type 0
 IsFetchedAhead s p None = IsFetched s p
 IsFetchedAhead s p (Some prepared) = IsFetchedThen s p prepared
+
+-- what was read last shows no whole trace, where trace p as it would be was to be shown, where something may be prepared or nothing
+abbrev pub HasChangedAhead : {T : Type 0} → TraceStore T → ℕ → Option Prepared → Type 0
+HasChangedAhead s p None = HasChanged s p
+HasChangedAhead s p (Some prepared) = HasChangedThen s p prepared

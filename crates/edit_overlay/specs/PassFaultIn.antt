@@ -6,4 +6,9 @@ use Rattle.edit_overlay.specs.declared.pass_fault.PassFault.TheInside.{Inside}
 
 -- what is shown
 abbrev pub refused_of : Inside → RefusedPass
-refused_of e = record { fault = e.fault; read = joined e.log.events; failures = length e.failed.events }
+refused_of e = record {
+  fault = e.fault;
+  read = joined e.logs.first.events;
+  failures = length e.logs.failed.events;
+  ended = length e.logs.ended.events;
+}

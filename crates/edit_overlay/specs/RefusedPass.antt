@@ -2,8 +2,10 @@
 use Rattle.std.specs.Prelude.{ℕ, List}
 use Rattle.frame_cut.specs.declared.load_fault.LoadFault.{LoadFault}
 
--- a pass that was refused: why, the bytes that it had read, and how many reads had failed
+-- a pass that was refused: why, the bytes that it had read, how many reads had failed, and how many had given nothing where some
+-- were to come
 pub record RefusedPass : Type 0 where
   pub fault : LoadFault
   pub read : List ℕ
   pub failures : ℕ
+  pub ended : ℕ

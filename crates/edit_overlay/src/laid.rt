@@ -3,7 +3,8 @@
 ghost use Rattle.std.specs.Prelude.{◌≡◌, ◌-◌, ◌≤◌, [], length, slice_index_or, IfErr, IsOk, OnOk};
 ghost use Rattle.base_file.specs.HeldBytes.{IsInMemory, IsSure};
 ghost use Rattle.trace_store.specs.Ahead.{traces_ahead, IsReadyIfSome};
-ghost use Rattle.trace_store.specs.Faults.{IsFaultOfFetch};
+ghost use Rattle.trace_store.specs.Faults.{IsFaultOf};
+ghost use Rattle.trace_store.specs.Reread.{IsReread};
 ghost use Rattle.trace_store.specs.Stores.{traces_of};
 ghost use Rattle.trace_view.specs.Shown.{head_of, bytes_of};
 
@@ -18,7 +19,7 @@ pub struct Laid<T: Copy> {
 }
 
 impl<T: Copy> Laid<T> {
-    ghost use Rattle.edit_overlay.specs.Held.{IsFetchedAhead, IsReread};
+    ghost use Rattle.edit_overlay.specs.Held.{HasChangedAhead, IsFetchedAhead};
 
     // Reads the bytes of the trace that would be trace p. Refused as `TraceStore::fetch`.
     pub fn fetch(&mut self, p: u32) -> Result<(), ReadFault>
@@ -29,7 +30,9 @@ impl<T: Copy> Laid<T> {
         ensures prepared { self.new.prepared ≡ self.old.prepared }
         ensures ready { IsReadyIfSome self.new.store self.new.prepared }
         ensures fetched { OnOk result (IsFetchedAhead self.new.store p self.new.prepared) }
-        ensures fault { IfErr result (IsFaultOfFetch self.old.store.loaded self.new.store.loaded) }
+        ensures fault { IfErr result (IsFaultOf
+            (HasChangedAhead self.new.store p self.new.prepared) self.old.store.loaded
+            self.new.store.loaded) }
         ensures memory { IsInMemory self.old.store.loaded.standing → IsOk result }
     {
         match &self.prepared {

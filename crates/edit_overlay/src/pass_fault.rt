@@ -2,17 +2,16 @@
 ghost use Rattle.std.specs.Prelude.{◌≡◌, []};
 ghost use Rattle.base_file.specs.HeldBytes.{IsInMemory};
 
-use base_file::{Held, Log};
+use base_file::{Held, Logs};
 use frame_cut::LoadFault;
 use std::marker::Model;
 
-/// Why a file that is read once was refused, what had been read of it, and which reads had failed:
-/// clauses alone see the bytes, and how many failed.
+/// Why a file that is read once was refused, and what its reads had given: clauses alone see the
+/// bytes, how many reads had failed, and how many had given nothing where some were to come.
 #[derive(Drop)]
 pub struct PassFault {
     fault: LoadFault,
-    log: Log,
-    failed: Log,
+    logs: Logs,
 }
 
 impl Model for PassFault {
@@ -31,24 +30,27 @@ impl PassFault {
         ensures fault { result.fault ≡ fault }
         ensures read { result.read ≡ [] }
         ensures failures { result.failures ≡ 0 }
+        ensures ended { result.ended ≡ 0 }
     {
         PassFault {
             fault,
-            log: Log::new(),
-            failed: Log::new(),
+            logs: Logs::new(),
         }
     }
 
-    /// For this reason, when these bytes had been read and these reads had failed; the file is
-    /// given up. Takes no memory.
+    /// For this reason, when the reads had given what they gave; the file is given up. Takes no
+    /// memory.
     pub fn of(fault: LoadFault, held: Held) -> PassFault
         requires { ¬ IsInMemory held.standing }
         ensures fault { result.fault ≡ fault }
         ensures read { result.read ≡ held.bytes }
         ensures failures { result.failures ≡ held.failures }
+        ensures ended { result.ended ≡ held.ended }
     {
-        let (log, failed) = held.into_logs();
-        PassFault { fault, log, failed }
+        PassFault {
+            fault,
+            logs: held.into_logs(),
+        }
     }
 
     /// Why. Takes no memory.

@@ -1,13 +1,13 @@
 // Writes a volume to a device: its parts in order, neighbouring ranges of the loaded file together,
 // and joins nothing. What was loaded is written by pieces, each as long as can be lent at once.
-ghost use Rattle.std.specs.Prelude.{◌≡◌, ◌+◌, ◌-◌, ◌*◌, ◌≤◌, ◌<◌, ◌^◌, ◌++◌, [], length, take, drop, slice_range, slice_index_or, None, IfErr, IsOk, IsSome, IsTrue, OnOk};
+ghost use Rattle.std.specs.Prelude.{◌≡◌, ◌+◌, ◌-◌, ◌≤◌, ◌<◌, ◌^◌, [], length, slice_range, slice_index_or, None, IfErr, OnOk};
 ghost use Rattle.std.specs.List.{concat};
 ghost use Rattle.base_file.specs.HeldBytes.{IsSure};
-ghost use Rattle.frame_cut.specs.Heads.{blocks_of};
 ghost use Rattle.frame_cut.specs.Volume.{bytes_of};
 ghost use Rattle.trace_view.specs.Shown.{bytes_of as bytes_of_view};
-ghost use Rattle.edit_overlay.specs.Held.{volume_with, CanLend, HasEnds, IsReread};
+ghost use Rattle.edit_overlay.specs.Held.{volume_with, CanLend, HasEnds};
 ghost use Rattle.edit_overlay.specs.Saving.{progress, CountsSaveFailure, GoesOn, IsUnread, Saves};
+ghost use Rattle.trace_store.specs.Reread.{IsReread};
 ghost use Rattle.trace_store.specs.Stores.{traces_of};
 
 use crate::save_fault::SaveFault;

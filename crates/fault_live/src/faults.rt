@@ -16,7 +16,7 @@ use crate::firsts::{first_place, key_alone, key_beside, key_of, keys_of, window_
 use crate::report::{push_head, push_trace, units_of_first};
 use crate::{Fault, HeadFacts};
 use key_counts::{lower_any, raise_any};
-use record_table::{Records, Running};
+use record_table::{Reach, Records, Running};
 use room::{OutOfMemory, Room};
 use std::alloc::Global;
 use std::collections::BTreeMap;
@@ -45,8 +45,12 @@ impl Running for Faults {
         }
     }
 
-    fn from_records(room: &mut Room, records: &Records) -> Result<Faults, OutOfMemory> {
-        let window = window_of(room, records)?;
+    fn from_records(
+        room: &mut Room,
+        records: &Records,
+        reach: &Reach,
+    ) -> Result<Faults, OutOfMemory> {
+        let window = window_of(room, records, reach)?;
         if window.len() == 0 {
             return Faults::from_key_list(room, records);
         }

@@ -10,11 +10,11 @@ ghost use Rattle.fault_live.specs.FaultKeys.{keys_of_faults};
 ghost use Rattle.fault_live.specs.OfKeys.{times_among};
 
 use key_counts::beside;
-use record_table::Records;
+use record_table::{Reach, Records};
 use room::{OutOfMemory, Room};
 use std::collections::BTreeMap;
 use trace_record::Record;
-use window_counts::{Extent, OffsetExtent, OffsetRectangle, Window};
+use window_counts::{OffsetRectangle, Window};
 
 // Inline, crossline and offset together.
 pub(crate) fn key_of(trace: &Record) -> (i32, i32, i32)
@@ -38,13 +38,17 @@ pub(crate) fn key_beside(trace: &Record, other: &Record) -> Option<(i32, i32, i3
     beside(key_alone(trace), key_alone(other))
 }
 
-// Places for the keys of these traces: the cells at one offset, where enough traces share it, or
-// else each at the offset of its last trace; none where they lie apart. Takes memory for the
-// offsets of cells.
-pub(crate) fn window_of(room: &mut Room, records: &Records) -> Result<OffsetRectangle, OutOfMemory>
+// Places for the keys of these traces, which reach so far: the cells at one offset, where enough
+// traces share it, or else each at the offset of its last trace; none where they lie apart. Takes
+// memory for the offsets of cells.
+pub(crate) fn window_of(
+    room: &mut Room,
+    records: &Records,
+    reach: &Reach,
+) -> Result<OffsetRectangle, OutOfMemory>
     ensures memory { Rises (IsErr result) room.old room.new }
 {
-    let extent = extent_of(records);
+    let extent = reach.triples();
     let window = OffsetRectangle::over(&extent, records.len());
     if window.len() > 0 {
         return Ok(window);
@@ -62,15 +66,6 @@ fn with_offsets_of(mut window: OffsetRectangle, records: &Records) -> OffsetRect
         window.meet(key_of(&trace));
     }
     window
-}
-
-// How far the keys of these traces reach.
-fn extent_of(records: &Records) -> OffsetExtent {
-    let mut extent = OffsetExtent::none();
-    for trace in records.iter() {
-        extent.include(key_of(&trace));
-    }
-    extent
 }
 
 // The keys of these traces, in their order.

@@ -2,12 +2,12 @@ ghost use Rattle.std.specs.Prelude.{IsErr};
 ghost use Rattle.room.specs.Refusals.{Rises};
 ghost use Rattle.grid_live.specs.Fitting.{CellsFit};
 
-use crate::key_lists::{cell_keys, crossline_keys, extent_of, inline_keys};
+use crate::key_lists::{cell_keys, crossline_keys, inline_keys};
 use crate::keys::Keys;
 use crate::lists::histogram_of_cells;
 use crate::{Cell, FoldCount, Line};
 use key_counts::{lower_any, lower_both, raise_any, raise_both};
-use record_table::{Records, Running};
+use record_table::{Reach, Records, Running};
 use room::{OutOfMemory, Room};
 use std::alloc::Global;
 use trace_record::Record;
@@ -192,15 +192,18 @@ impl Running for Grid {
         }
     }
 
-    fn from_records(room: &mut Room, records: &Records) -> Result<Grid, OutOfMemory> {
+    fn from_records(
+        room: &mut Room,
+        records: &Records,
+        reach: &Reach,
+    ) -> Result<Grid, OutOfMemory> {
         let count = records.len();
-        let extent = extent_of(records);
-        let window = Rectangle::over(&extent, count);
+        let window = Rectangle::over(&reach.cells(), count);
         if window.len() == 0 {
             return Grid::from_key_lists(room, records);
         }
-        let inlines = LineCounts::within(room, Interval::over(&extent.inlines(), count))?;
-        let crosslines = LineCounts::within(room, Interval::over(&extent.crosslines(), count))?;
+        let inlines = LineCounts::within(room, Interval::over(&reach.inlines(), count))?;
+        let crosslines = LineCounts::within(room, Interval::over(&reach.crosslines(), count))?;
         let mut grid = Grid {
             records: 0,
             cells: CellCounts::within(room, window)?,

@@ -1,11 +1,10 @@
-// The keys of records that a grid counts, in their order, and how far they reach.
+// The keys of records that a grid counts, in their order.
 ghost use Rattle.std.specs.Prelude.{◌≡◌, IfOk, All, FitsSigned, map, IsErr};
 ghost use Rattle.std.specs.Int.{w32};
 ghost use Rattle.room.specs.Refusals.{Rises};
 
 use record_table::Records;
 use room::{OutOfMemory, Room};
-use window_counts::{Extent, RectangleExtent};
 
 pub(crate) fn cell_keys(room: &mut Room, records: &Records) -> Result<Vec<(i32, i32)>, OutOfMemory>
     ensures keys { IfOk result (λ keys. keys.items ≡
@@ -35,13 +34,4 @@ pub(crate) fn crossline_keys(room: &mut Room, records: &Records) -> Result<Vec<i
 {
     let made = records.iter().map(|r| r.crossline).collect(room.alloc());
     room.told(made)
-}
-
-// The least and the greatest inline and crossline.
-pub(crate) fn extent_of(records: &Records) -> RectangleExtent {
-    let mut extent = RectangleExtent::none();
-    for trace in records.iter() {
-        extent.include((trace.inline, trace.crossline));
-    }
-    extent
 }

@@ -7,7 +7,7 @@ use crate::counting::{add_both, add_both_beside};
 use fault_live::Faults;
 use grid_live::Grid;
 use range_stats::{Ranges, Totals};
-use record_table::{Records, Running};
+use record_table::{Reach, Records, Running};
 use room::{OutOfMemory, Room};
 use trace_record::Record;
 
@@ -29,10 +29,11 @@ impl Values {
             (tallies_of_records (map facts_of records.now))) }
         ensures memory { Rises (IsErr result) room.old room.new }
     {
-        let totals = Totals::from_records(room, records)?;
-        let triples = Faults::from_records(room, records)?;
-        let ranges = Ranges::from_records(room, records)?;
-        let grid = Grid::from_records(room, records)?;
+        let reach = Reach::of(records);
+        let totals = Totals::from_records(room, records, &reach)?;
+        let triples = Faults::from_records(room, records, &reach)?;
+        let ranges = Ranges::from_records(room, records, &reach)?;
+        let grid = Grid::from_records(room, records, &reach)?;
         Ok(Values {
             grid,
             ranges,

@@ -8,3 +8,4 @@ pub mod TallyRangeLemmas
 pub mod TotalsLemmas
 pub mod LoadLemmas
 pub mod WholeLemmas
+pub mod CountedLemmas

@@ -13,13 +13,14 @@ use Rattle.key_counts.specs.declared.packed_ratio.PackedRatio.{PackedRatio}
 use Rattle.key_counts.specs.declared.ratio.Ratio.{Ratio}
 use Rattle.trace_record.specs.Keys.{cell, inline, crossline, offset, coordinate_x, coordinate_y, least, greatest, triple}
 use Rattle.key_counts.specs.RatioOrder.{ratio_cmp}
-use Rattle.key_counts.specs.Rising.{Shows, times_in}
+use Rattle.key_counts.specs.Rising.{times_in}
 use Rattle.trace_record.specs.Tally.{Same, tally_of}
 use Rattle.trace_record.specs.declared.amplitudes.Amplitudes.{Amplitudes}
 use Rattle.trace_record.specs.declared.record.Record.{Record}
 use Rattle.range_stats.proofs.EndKeyLemmas.{counted_ends, amplitudes-facts}
 use Rattle.trace_record.proofs.LoadLemmas.{sum_by-zero, int_sum-zero, map-facts}
 use Rattle.key_counts.proofs.ShownLemmas.{times_in-map}
+use Rattle.range_stats.specs.EndsCounted.{AreEndsCounted}
 use Rattle.range_stats.specs.OfRanges.{tally_of_ranges}
 use Rattle.range_stats.specs.OfTotals.{tally_of_totals}
 use Rattle.range_stats.specs.TotalKeys.{keys_of_totals}
@@ -75,8 +76,8 @@ times_in-valued end rs v = ap (λ (xs : List Amplitudes). times_in int_cmp (map 
 pub Same-loaded_totals : (t : Totals) (rs : List Record) → t.records ≡ length rs
     → t.number ≡ (tally_of keys_of_totals (map facts_of rs)).number
     → t.sum ≡ (tally_of keys_of_totals (map facts_of rs)).sum
-    → Shows int_cmp (times_in int_cmp (map (λ a. a.least) (filter_map (λ r. r.amplitudes) rs))) t.least_samples
-    → Shows int_cmp (times_in int_cmp (map (λ a. a.greatest) (filter_map (λ r. r.amplitudes) rs))) t.greatest_samples
+    → AreEndsCounted (λ a. a.least) t.least_samples rs
+    → AreEndsCounted (λ a. a.greatest) t.greatest_samples rs
     → Same (tally_of_totals t) (tally_of keys_of_totals (map facts_of rs))
 Same-loaded_totals t rs n number sum least_of greatest_of = record {
   records = n ∙ sym (length-map rs facts_of);
@@ -89,8 +90,8 @@ Same-loaded_totals t rs n number sum least_of greatest_of = record {
     | offset o ↦ sym (sum_by-zero (map facts_of rs))
     | coordinate_x r ↦ sym (sum_by-zero (map facts_of rs))
     | coordinate_y r ↦ sym (sum_by-zero (map facts_of rs))
-    | least v ↦ least_of.counts v ∙ times_in-valued (λ a. a.least) rs v
-    | greatest v ↦ greatest_of.counts v ∙ times_in-valued (λ a. a.greatest) rs v
+    | least v ↦ least_of v ∙ times_in-valued (λ a. a.least) rs v
+    | greatest v ↦ greatest_of v ∙ times_in-valued (λ a. a.greatest) rs v
     | triple i x o ↦ sym (sum_by-zero (map facts_of rs))
   ];
 }

@@ -6,6 +6,7 @@ pub mod Totals
 pub mod OfTally
 pub mod Extremes
 pub mod Whole
+pub mod EndsCounted
 pub mod OfKeys
 pub mod OfTotals
 pub mod OfRanges

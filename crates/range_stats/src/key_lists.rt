@@ -8,18 +8,16 @@ ghost use Rattle.trace_record.specs.Tally.{tally_of, IsSmall};
 ghost use Rattle.range_stats.specs.TotalKeys.{keys_of_totals};
 
 use crate::sums::Sums;
-use crate::whole_counts::{WholeExtents, Windows};
 use key_counts::PackedRatio;
 use record_table::Records;
 use room::{OutOfMemory, Room};
 use trace_record::Record;
 
-// Both coordinates of each record, and where the whole numbers of all lie densely.
+// Both coordinates of each record.
 #[derive(Drop)]
 pub(crate) struct CoordinateKeys {
     pub x: Vec<PackedRatio>,
     pub y: Vec<PackedRatio>,
-    pub windows: Windows,
 }
 
 pub(crate) fn coordinate_keys(
@@ -32,14 +30,11 @@ pub(crate) fn coordinate_keys(
 {
     let mut x = room.told(Vec::with_capacity(room.alloc(), records.len()))?;
     let mut y = room.told(Vec::with_capacity(room.alloc(), records.len()))?;
-    let mut extents = WholeExtents::none();
     for trace in records.iter() {
-        extents.include(&trace);
         room.told_back(x.push(trace.packed_x()))?;
         room.told_back(y.push(trace.packed_y()))?;
     }
-    let windows = extents.windows(records.len());
-    Ok(CoordinateKeys { x, y, windows })
+    Ok(CoordinateKeys { x, y })
 }
 
 // The least and the greatest sample of each trace whose samples have values, and what the samples

@@ -9,6 +9,7 @@
 #![tactic(auto)]
 
 mod coordinate_counts;
+mod end_counts;
 mod ends;
 mod key_lists;
 mod keys;

@@ -11,9 +11,9 @@ use crate::Quantity;
 use crate::coordinate_counts::CoordinateCounts;
 use crate::key_lists::{CoordinateKeys, coordinate_keys};
 use crate::keys::Keys;
-use crate::whole_counts::WholeCounts;
+use crate::whole_counts::{WholeCounts, Windows};
 use key_counts::{Ratio, lower_any, lower_both, raise_any, raise_both};
-use record_table::{Records, Running};
+use record_table::{Reach, Records, Running};
 use room::{OutOfMemory, Room};
 use std::alloc::Global;
 use trace_record::Record;
@@ -50,8 +50,13 @@ impl Running for Ranges {
         }
     }
 
-    fn from_records(room: &mut Room, records: &Records) -> Result<Ranges, OutOfMemory> {
-        let CoordinateKeys { x, y, windows } = coordinate_keys(room, records)?;
+    fn from_records(
+        room: &mut Room,
+        records: &Records,
+        reach: &Reach,
+    ) -> Result<Ranges, OutOfMemory> {
+        let CoordinateKeys { x, y } = coordinate_keys(room, records)?;
+        let windows = Windows::of(reach, records.len());
         let WholeCounts {
             inlines,
             crosslines,

@@ -1,11 +1,12 @@
+use crate::end_counts::EndCounts;
 use crate::ends::Ends;
-use crate::key_lists::{EndKeys, end_keys};
 use crate::sums::Sums;
-use key_counts::{Counts, lower_both, raise_both};
-use record_table::{Records, Running};
+use key_counts::{lower_both, raise_both};
+use record_table::{Reach, Records, Running};
 use room::{OutOfMemory, Room};
 use std::alloc::Global;
 use trace_record::Record;
+use window_counts::SampleCounts;
 
 /// The least, the greatest, the sum and the number of the samples of traces that come and go, as
 /// far as they have values. A trace without such samples has no part in them. Adding or removing a
@@ -15,8 +16,8 @@ pub struct Totals {
     records: u64,
     number: u64,
     sum: i128,
-    least_samples: Counts<i128>,
-    greatest_samples: Counts<i128>,
+    least_samples: SampleCounts,
+    greatest_samples: SampleCounts,
 }
 
 impl Running for Totals {
@@ -32,25 +33,27 @@ impl Running for Totals {
             records: 0,
             number: 0,
             sum: 0,
-            least_samples: Counts::new(alloc),
-            greatest_samples: Counts::new(alloc),
+            least_samples: SampleCounts::new(alloc),
+            greatest_samples: SampleCounts::new(alloc),
         }
     }
 
-    fn from_records(room: &mut Room, records: &Records) -> Result<Totals, OutOfMemory> {
-        let EndKeys {
+    fn from_records(
+        room: &mut Room,
+        records: &Records,
+        reach: &Reach,
+    ) -> Result<Totals, OutOfMemory> {
+        let EndCounts {
             least,
             greatest,
             sums,
-        } = end_keys(room, records)?;
-        let least_samples = Counts::from_keys(room, least)?;
-        let greatest_samples = Counts::from_keys(room, greatest)?;
+        } = EndCounts::of(room, records, reach)?;
         Ok(Totals {
             records: records.len() as u64,
             number: sums.number,
             sum: sums.sum,
-            least_samples,
-            greatest_samples,
+            least_samples: least,
+            greatest_samples: greatest,
         })
     }
 

@@ -4,10 +4,10 @@ ghost use Rattle.room.specs.Refusals.{Rises};
 ghost use Rattle.range_stats.specs.Whole.{whole_in, AreCounted};
 ghost use Rattle.range_stats.specs.declared.whole_counts.WholeQuantity.TheVariants.{Inline, Crossline, Offset};
 
-use record_table::Records;
+use record_table::{Reach, Records};
 use room::{OutOfMemory, Room};
 use trace_record::Record;
-use window_counts::{Extent, Interval, IntervalExtent, LineCounts, Window};
+use window_counts::{Interval, LineCounts, Window};
 
 // A quantity that is a whole number.
 #[derive(Clone, Copy)]
@@ -100,37 +100,13 @@ pub(crate) struct Windows {
     offsets: Interval,
 }
 
-// How far the inlines, the crosslines and the offsets of records reach.
-#[derive(Clone, Copy)]
-pub(crate) struct WholeExtents {
-    inlines: IntervalExtent,
-    crosslines: IntervalExtent,
-    offsets: IntervalExtent,
-}
-
-impl WholeExtents {
-    // Of no record.
-    pub(crate) fn none() -> WholeExtents {
-        WholeExtents {
-            inlines: IntervalExtent::none(),
-            crosslines: IntervalExtent::none(),
-            offsets: IntervalExtent::none(),
-        }
-    }
-
-    // Of one record more.
-    pub(crate) fn include(&mut self, trace: &Record) {
-        self.inlines.include(trace.inline);
-        self.crosslines.include(trace.crossline);
-        self.offsets.include(trace.offset);
-    }
-
-    // Where so many records with these extents lie densely.
-    pub(crate) fn windows(&self, records: usize) -> Windows {
+impl Windows {
+    // Those of so many records, which reach so far.
+    pub(crate) fn of(reach: &Reach, records: usize) -> Windows {
         Windows {
-            inlines: Interval::over(&self.inlines, records),
-            crosslines: Interval::over(&self.crosslines, records),
-            offsets: Interval::over(&self.offsets, records),
+            inlines: Interval::over(&reach.inlines(), records),
+            crosslines: Interval::over(&reach.crosslines(), records),
+            offsets: Interval::over(&reach.offsets(), records),
         }
     }
 }

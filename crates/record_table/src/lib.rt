@@ -11,12 +11,14 @@
 #![tactic(auto)]
 
 mod cells_iter;
+mod reach;
 mod record_list;
 mod records;
 mod records_iter;
 mod running;
 
 pub use crate::cells_iter::CellsIter;
+pub use crate::reach::Reach;
 pub use crate::record_list::RecordList;
 pub use crate::records::Records;
 pub use crate::records_iter::RecordsIter;

@@ -1,7 +1,7 @@
 ghost use Rattle.std.specs.Prelude.{◌≡◌, OnOk, OnErr, IsErr, IsOk, IfOk, map};
 ghost use Rattle.room.specs.Refusals.{Rises};
 
-use crate::Records;
+use crate::{Reach, Records};
 use room::{OutOfMemory, Room};
 use std::alloc::Global;
 use trace_record::Record;
@@ -23,10 +23,14 @@ pub trait Running: Drop {
     fn new(alloc: Global) -> Self
         ensures { Same (tally result) empty_tally };
 
-    /// The value that counted these traces, made all at once from sorted keys. Takes memory for
-    /// what it holds and, while it is made, for lists of keys and one of their runs; refused for
-    /// want of it alone.
-    fn from_records(room: &mut Room, records: &Records<'_>) -> Result<Self, OutOfMemory>
+    /// The value that counted these traces, made all at once. How far their numbers reach costs
+    /// time and memory, and changes no number. Takes memory for what it holds and, while it is
+    /// made, for lists of keys and one of their runs; refused for want of it alone.
+    fn from_records(
+        room: &mut Room,
+        records: &Records<'_>,
+        reach: &Reach,
+    ) -> Result<Self, OutOfMemory>
         requires { IsSmall (tally_of counted (map facts_of records.now)) }
         ensures same { IfOk result (λ value.
             Same (tally value) (tally_of counted (map facts_of records.now))) }

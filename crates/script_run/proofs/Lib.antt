@@ -11,6 +11,7 @@ pub mod SessionEndLemmas
 pub mod ReadAsLemmas
 pub mod InPlaceLemmas
 pub mod PlaceLemmas
+pub mod LookLemmas
 mod SectionOutLemmas
 mod SectionAskedLemmas
 pub mod CauseLemmas

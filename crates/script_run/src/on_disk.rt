@@ -1,5 +1,5 @@
 // Runs and sessions over a file that stays on disk.
-ghost use Rattle.std.specs.Prelude.{◌≡◌, List, ℕ, length, true, Err, IfOk, IfErr, OnErr, IsErrAnd};
+ghost use Rattle.std.specs.Prelude.{◌≡◌, ◌≤◌, List, ℕ, length, true, Err, IfOk, IfErr, OnErr, IsErrAnd};
 ghost use Rattle.edit_overlay.specs.Reads.{HaveAgreed};
 ghost use Rattle.room.specs.Refusals.{Rises};
 ghost use Rattle.field_map.specs.Binding.{geometry_at_load};
@@ -10,7 +10,10 @@ ghost use Rattle.line_texts.specs.Devices.{device_of};
 ghost use Rattle.refusal_texts.specs.RefusalTexts.{load_refusal_line};
 ghost use Rattle.script_text.specs.declared.run_end.RunEnd.TheVariants as ends;
 ghost use Rattle.script_run.specs.Causes.{failures};
+ghost use Rattle.bench_rules.specs.Looks.{load_looks};
 ghost use Rattle.script_run.specs.Ends.{devices, IsTold, Runs};
+ghost use Rattle.script_run.specs.LineLooks.{after_looks, LookedState, LooksOfRun};
+ghost use Rattle.script_run.specs.Loading.{Loads};
 ghost use Rattle.script_run.specs.Sessions.{session_devices, Session};
 ghost use Rattle.script_run.specs.OnDisk.{unread, read_whole, RefusesPass};
 
@@ -56,6 +59,12 @@ pub fn run_on_disk<S: Read, A: Write, O: Write>(
         (devices read_whole (device_of S.remaining script.new)
         (device_of A.contents answers.new) (device_of O.contents out.new)
         (failures room.new volume.reads.failures)) result.end) }
+    ensures looks { IfOk result.volume (λ volume. HaveAgreed volume.reads → (start : LookedState) ×
+        Loads (unread volume.loaded) read_whole options.reading options.limits true start.state ×
+        (start.looks ≤ load_looks start.state.volume) × LooksOfRun
+        (device_of S.remaining script.old) (device_of S.remaining script.new)
+        (device_of A.contents answers.old) (device_of A.contents answers.new) start
+        (after_looks volume.state volume.looks)) }
     ensures size { IfOk result.volume (λ volume. length volume.loaded ≡ size) }
     ensures refused { IfErr result.volume (RefusesPass size options
         (device_of S.remaining script.old) (device_of S.remaining script.new)
@@ -133,9 +142,11 @@ pub fn load_on_disk(
     ensures limits { IfOk result (λ bench. bench.state.limits ≡ options.limits) }
     ensures place { IfOk result (λ bench. bench.state.on_disk ≡ true) }
     ensures reads { IfOk result (λ bench. HaveAgreed bench.reads) }
+    ensures unfailed { IfOk result (λ bench. bench.reads.failures ≡ 0) }
+    ensures looks { IfOk result (λ bench. bench.looks ≤ load_looks bench.state.volume) }
     ensures refused { IfErr result (λ refused.
         IsPassFault size options.reading options.limits refused.read refused.failures
-        refused.fault) }
+        refused.ended refused.fault) }
     ensures memory { Rises (IsErrAnd result (λ e. e.fault ≡ LoadFault.OutOfMemory))
         room.old room.new }
 {

@@ -12,11 +12,12 @@ ghost use Rattle.live_volume.specs.Held.{IsReadAs};
 ghost use Rattle.line_texts.specs.Devices.{device_of};
 ghost use Rattle.script_run.specs.Telling.{IsWritten};
 ghost use Rattle.script_run.specs.LineRuns.{RunsLines};
-ghost use Rattle.script_run.specs.LineLooks.{command_looks, held_rows, line_looks};
+ghost use Rattle.script_run.specs.LineLooks.{command_looks, held_rows, line_looks, after_looks, LooksOfLines};
 ghost use Rattle.script_run.specs.Causes.{meanwhile, read_meanwhile};
 ghost use Rattle.script_text.specs.Replies.{Printed};
 ghost use Rattle.script_run.specs.Runs.{LineStep, CommandStep, HasTraces, IsPrintedBy, IsPrintedOf, Prints, asks_for_section as asks_for_section_of, section_in, asks_for_stats as asks_for_stats_of, floats_asked, tells_samples as tells_samples_of};
 ghost use Rattle.script_words.specs.declared.command.Command.TheVariants.{Ask};
+ghost use Rattle.script_words.specs.Words.{script_lines};
 
 use crate::lines_end::LinesEnd;
 use crate::told::{Told, write_reply};
@@ -50,6 +51,9 @@ pub(crate) fn run_lines<A: Write>(
     ensures same { IsReadAs bench.old.state bench.new.state }
     ensures reads { Follow bench.old.reads bench.new.reads }
     ensures loaded { bench.new.loaded ≡ bench.old.loaded }
+    ensures looks { HaveAgreed bench.new.reads → LooksOfLines (device_of A.contents answers.old)
+        (device_of A.contents answers.new) (after_looks bench.old.state bench.old.looks)
+        (script_lines script.now) (after_looks bench.new.state bench.new.looks) }
     ensures never_falls { room.old ≤ room.new }
 {
     let mut lines = Lines::new(script);

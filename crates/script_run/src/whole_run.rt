@@ -10,6 +10,7 @@ ghost use Rattle.line_texts.specs.Devices.{Device, device_of, Takes};
 ghost use Rattle.script_run.specs.Loading.{Loads, IsLoadRefused};
 ghost use Rattle.script_run.specs.Causes.{Failures, failures, read_meanwhile, Spans};
 ghost use Rattle.script_run.specs.Ends.{devices, IsTold, Runs, SavesPart};
+ghost use Rattle.script_run.specs.LineLooks.{after_looks, LooksOfRun};
 
 use crate::lines_end::LinesEnd;
 use crate::options::Options;
@@ -93,6 +94,10 @@ pub fn run_loaded<S: Read, A: Write, O: Write>(
     ensures same { IsReadAs bench.old.state bench.new.state }
     ensures reads { Follow bench.old.reads bench.new.reads }
     ensures loaded { bench.new.loaded ≡ bench.old.loaded }
+    ensures looks { HaveAgreed bench.new.reads → LooksOfRun (device_of S.remaining script.old)
+        (device_of S.remaining script.new) (device_of A.contents answers.old)
+        (device_of A.contents answers.new) (after_looks bench.old.state bench.old.looks)
+        (after_looks bench.new.state bench.new.looks) }
     ensures never_falls { room.old ≤ room.new }
 {
     // The law by which each line is answered as from scratch, for the proof.
@@ -140,6 +145,7 @@ fn save<O: Write>(bench: &mut Bench, out: &mut Sink<O>) -> Result<(), SaveFault>
     ensures state { bench.new.state ≡ bench.old.state }
     ensures reads { Follow bench.old.reads bench.new.reads }
     ensures loaded { bench.new.loaded ≡ bench.old.loaded }
+    ensures looks { bench.new.looks ≡ bench.old.looks }
 {
     bench.save(out)
 }

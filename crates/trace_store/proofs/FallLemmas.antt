@@ -1,11 +1,11 @@
 -- A store whose loaded bytes have been read again: they stand as before, or have fallen.
-use Rattle.std.proofs.Common.{◌≡◌, ℕ, List, length, refl, sym, ap, subst, arith, Option, Some, None}
+use Rattle.std.proofs.Common.{◌≡◌, ℕ, List, length, refl, sym, ap, ◌∙◌, subst, arith, Option, Some, None}
 use Rattle.std.specs.Prelude.{IsSomeAnd, IfErr, Result, Ok, Err}
 use Rattle.slab.specs.Slab.{Slab, get}
-use Rattle.base_file.specs.HeldBytes.{HeldBytes, IsStill, IsSure}
+use Rattle.base_file.specs.HeldBytes.{HeldBytes, IsStill}
 use Rattle.base_file.specs.declared.read_fault.ReadFault.{ReadFault}
 use Rattle.base_file.specs.declared.read_fault.ReadFault.TheVariants.{ReadFailed, Changed, TooLarge}
-use Rattle.base_file.proofs.HeldLemmas.{on_disk_before, sure_before}
+use Rattle.base_file.proofs.HeldLemmas.{on_disk_before, sure_before, IsStill-refl, IsStill-trans}
 use Rattle.frame_cut.specs.declared.file_head.Head.{Head}
 use Rattle.frame_cut.specs.Cuts.{IsTrace}
 use Rattle.trace_seq.specs.Order.{ChunkOrder}
@@ -16,16 +16,17 @@ use Rattle.trace_store.specs.declared.store.TraceStore.{TraceStore}
 use Rattle.trace_store.specs.Ahead.{IsReady}
 use Rattle.trace_store.specs.declared.base.Base.{Base}
 use Rattle.trace_store.specs.declared.base.Base.TheVariants.{Loaded, Added}
-use Rattle.trace_store.specs.Faults.{IsFaultOfFetch, IsFaultOfTrace}
+use Rattle.trace_store.specs.Faults.{IsFaultOf}
+use Rattle.trace_store.specs.Reread.{IsReread}
 use Rattle.trace_store.specs.Slots.{base_of, bytes_in, AreHeld, HasRoomFor, IsHeldUnder, IsInside, IsSlot, IsStore}
 use Rattle.trace_store.proofs.AheadLemmas.{IsSame, ready_kept}
 
--- a look at a trace that is whole, if the bytes are sure, was refused where a read failed, or they are not sure
-pub look_fault : {T Whole : Type 0} (result : Result T ReadFault) (before now : HeldBytes) → (IsSure now.standing → Whole) → IfErr result (IsFaultOfTrace Whole before now) → IfErr result (IsFaultOfFetch before now)
-look_fault (Ok x) before now whole fault = tt
-look_fault (Err ReadFailed) before now whole fault = fault
-look_fault (Err TooLarge) before now whole fault = fault
-look_fault (Err Changed) before now whole fault = λ sure. fault sure (whole sure)
+-- why a trace was not read, where it has changed in one sense if it has in another
+pub fault_so : {T This That : Type 0} (result : Result T ReadFault) (before now : HeldBytes) → (This → That) → IfErr result (IsFaultOf This before now) → IfErr result (IsFaultOf That before now)
+fault_so (Ok x) before now so fault = tt
+fault_so (Err ReadFailed) before now so fault = fault
+fault_so (Err TooLarge) before now so fault = fault
+fault_so (Err Changed) before now so fault = so fault
 
 -- there is room as before
 room_falls : (old new : HeldBytes) (base : Base) → IsStill old new → HasRoomFor old base → HasRoomFor new base
@@ -61,16 +62,41 @@ module _ {T : Type 0} where
   }
 
   -- a store whose loaded bytes have been read again has the same traces
-  pub same_fetched : (s t : TraceStore T) → t.head ≡ s.head → t.order ≡ s.order → t.slots ≡ s.slots → IsStill s.loaded t.loaded → IsSame s t
-  same_fetched s t head order slots still = record {
+  pub reread : (s t : TraceStore T) → t.head ≡ s.head → t.order ≡ s.order → t.slots ≡ s.slots → IsStill s.loaded t.loaded → IsReread s t
+  reread s t head order slots still = record {
     head = head;
-    standing = still.standing;
+    order = order;
+    slots = slots;
+    loaded = still;
     bases = rw (order, slots, still.bytes) refl;
     traces = rw (order, slots, still.bytes) refl;
     payloads = rw (order, slots) refl;
-    room = omega (arith, ap (λ (o : ChunkOrder). o.spare) order);
+  }
+
+  pub IsReread-refl : (s : TraceStore T) → IsReread s s
+  IsReread-refl s = reread s s refl refl refl (IsStill-refl s.loaded)
+
+  pub IsReread-trans : (s t u : TraceStore T) → IsReread s t → IsReread t u → IsReread s u
+  IsReread-trans s t u first second = record {
+    head = second.head ∙ first.head;
+    order = second.order ∙ first.order;
+    slots = second.slots ∙ first.slots;
+    loaded = IsStill-trans s.loaded t.loaded u.loaded first.loaded second.loaded;
+    bases = second.bases ∙ first.bases;
+    traces = second.traces ∙ first.traces;
+    payloads = second.payloads ∙ first.payloads;
+  }
+
+  pub same_fetched : (s t : TraceStore T) → IsReread s t → IsSame s t
+  same_fetched s t again = record {
+    head = again.head;
+    standing = again.loaded.standing;
+    bases = again.bases;
+    traces = again.traces;
+    payloads = again.payloads;
+    room = omega (arith, ap (λ (o : ChunkOrder). o.spare) again.order);
   }
 
   -- and what was ready for it is ready still
-  pub ready_falls : (s t : TraceStore T) (prepared : Prepared) → t.head ≡ s.head → t.order ≡ s.order → t.slots ≡ s.slots → IsStill s.loaded t.loaded → IsReady s prepared → IsReady t prepared
-  ready_falls s t prepared head order slots still ready = ready_kept s t (Some prepared) (same_fetched s t head order slots still) ready
+  pub ready_falls : (s t : TraceStore T) (prepared : Prepared) → IsReread s t → IsReady s prepared → IsReady t prepared
+  ready_falls s t prepared again ready = ready_kept s t (Some prepared) (same_fetched s t again) ready

@@ -25,8 +25,8 @@ use Rattle.trace_store.specs.declared.base.Base.TheVariants.{Loaded, Added}
 use Rattle.trace_store.specs.declared.slot.Slot.{Slot}
 use Rattle.trace_store.specs.declared.store.TraceStore.{TraceStore}
 use Rattle.trace_store.specs.Ahead.{traces_then, traces_with, AreRunsFrom, AreRunsOf, IsReady}
-use Rattle.trace_store.specs.Fetched.{slot_of, trace_with, IsFetchedWith, MayLie}
-use Rattle.trace_store.specs.Lent.{lent_base, IsBaseThere, IsLent}
+use Rattle.trace_store.specs.Fetched.{slot_of, trace_with, HasChangedWith, IsFetchedWith, MayLie}
+use Rattle.trace_store.specs.Lent.{lent_base, IsBaseThere, IsBroken, IsLent}
 use Rattle.trace_store.specs.Slots.{base_of, bytes_in, bytes_under, size_of, IsInside, IsSlot, IsWholeRange}
 use Rattle.trace_store.specs.Stores.{bases_of, traces_of}
 use Rattle.trace_store.specs.Then.{place_in_move, place_then, runs_over, runs_then}
@@ -50,6 +50,14 @@ module _ {T : Type 0} (s : TraceStore T) (p id : ℕ) (slot : Slot T) (at : id_a
   pub lent_at : (laid : Option (List Run)) → IsFetchedWith s p laid → IsLent s.loaded s.head slot.layers.base (unwrap_or laid slot.layers.runs)
   lent_at laid fetched = subst (λ (o : Option (Slot T)). IsSomeAnd o (λ x. IsLent s.loaded s.head x.layers.base (unwrap_or laid x.layers.runs))) slot_is fetched.lent
 
+  -- what is lent shows no whole trace; the trace with these runs is one, if the loaded bytes are sure: so they are not
+  pub changed_at : (laid : Option (List Run)) → (IsSure s.loaded.standing → IsTrace s.head (bytes_with_runs (base_of s.loaded.bytes slot.layers.base) (unwrap_or laid slot.layers.runs)))
+      → IsBroken s.loaded s.head slot.layers.base (unwrap_or laid slot.layers.runs) → HasChangedWith s p laid
+  changed_at laid whole broken = record {
+    lent = subst (λ (o : Option (Slot T)). IsSomeAnd o (λ x. IsBroken s.loaded s.head x.layers.base (unwrap_or laid x.layers.runs))) (sym slot_is) broken;
+    unsure = λ sure. broken.broken (subst (λ (b : List ℕ). IsTrace s.head (bytes_with_runs b (unwrap_or laid slot.layers.runs))) (sym (broken.at_hand.same sure)) (whole sure));
+  }
+
   -- runs that may lie over a trace fit its base
   pub laid-fit : (laid : Option (List Run)) → IsSlot s.loaded s.head slot → MayLie s p laid → Fit (unwrap_or laid slot.layers.runs) (size_of slot.layers.base)
   laid-fit None sound may = subst (λ (n : ℕ). Fit slot.layers.runs n) (base-length s.loaded.bytes slot.layers.base sound.inside) sound.fit
@@ -63,14 +71,14 @@ module _ {T : Type 0} (s : TraceStore T) (p id : ℕ) (slot : Slot T) (at : id_a
   -- what is lent is the trace with the runs, if the loaded bytes are sure
   pub lent-shows : (laid : Option (List Run)) → IsLent s.loaded s.head slot.layers.base (unwrap_or laid slot.layers.runs) → IsSure s.loaded.standing
       → bytes_with_runs (lent_base s.loaded slot.layers.base) (unwrap_or laid slot.layers.runs) ≡ trace_with s p laid
-  lent-shows None lent sure = ap (λ (b : List ℕ). bytes_with_runs b slot.layers.runs) (lent.same sure) ∙ sym (trace-at s.loaded.bytes s.order.ids s.slots p id slot at found)
-  lent-shows (Some runs) lent sure = ap (λ (b : List ℕ). bytes_with_runs b runs) (lent.same sure ∙ sym (base-at s.loaded.bytes s.order.ids s.slots p id slot at found))
+  lent-shows None lent sure = ap (λ (b : List ℕ). bytes_with_runs b slot.layers.runs) (lent.at_hand.same sure) ∙ sym (trace-at s.loaded.bytes s.order.ids s.slots p id slot at found)
+  lent-shows (Some runs) lent sure = ap (λ (b : List ℕ). bytes_with_runs b runs) (lent.at_hand.same sure ∙ sym (base-at s.loaded.bytes s.order.ids s.slots p id slot at found))
 
   -- how long it is, sure or not
   pub length-lent : (runs : List Run) → IsSlot s.loaded s.head slot → IsLent s.loaded s.head slot.layers.base runs → length (bytes_with_runs (lent_base s.loaded slot.layers.base) runs) ≡ length (slice_index_or (bases_of s) (p - 1) [])
   length-lent runs sound lent =
-      let fit : Fit runs (length (lent_base s.loaded slot.layers.base)) = subst (λ (n : ℕ). Fit runs n) (sym lent.size) lent.fit in
-      length-written (lent_base s.loaded slot.layers.base) runs fit ∙ lent.size ∙ sym (base-length s.loaded.bytes slot.layers.base sound.inside)
+      let fit : Fit runs (length (lent_base s.loaded slot.layers.base)) = subst (λ (n : ℕ). Fit runs n) (sym lent.at_hand.size) lent.fit in
+      length-written (lent_base s.loaded slot.layers.base) runs fit ∙ lent.at_hand.size ∙ sym (base-length s.loaded.bytes slot.layers.base sound.inside)
       ∙ ap length (sym (base-at s.loaded.bytes s.order.ids s.slots p id slot at found))
 
   -- a trace is as long as its base
@@ -124,11 +132,13 @@ module _ {T : Type 0} (s : TraceStore T) (p : ℕ) (first : 1 ≤ p) (last : p �
       let same = base_lent s.loaded slot.layers.base memory in
       let runs = unwrap_or laid slot.layers.runs in
       fetched_at s p id slot id-there there.1 laid first last (record {
-        there = base_there s.loaded slot.layers.base memory sound.inside;
-        size = ap length same ∙ base-length s.loaded.bytes slot.layers.base sound.inside;
+        at_hand = record {
+          there = base_there s.loaded slot.layers.base memory sound.inside;
+          size = ap length same ∙ base-length s.loaded.bytes slot.layers.base sound.inside;
+          same = λ sure. same;
+        };
         fit = laid-fit s p id slot id-there there.1 laid sound may;
         whole = subst (λ (b : List ℕ). IsTrace s.head (bytes_with_runs b runs)) (sym same) (laid-whole s p id slot id-there there.1 laid sound may (sure_in_memory s.loaded.standing memory));
-        same = λ sure. same;
       })
 
   -- a trace is as long as its base

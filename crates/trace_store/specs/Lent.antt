@@ -19,10 +19,19 @@ abbrev pub lent_base : HeldBytes → Base → List ℕ
 lent_base loaded (Loaded extent) = lent_of loaded extent.start extent.length
 lent_base loaded (Added bytes) = bytes.items
 
--- what is lent shows a whole trace with the runs over it; and if the loaded bytes are sure, it is what lies there
-pub record IsLent (loaded : HeldBytes) (h : Head) (base : Base) (runs : List Run) : Type 0 where
+-- the bytes under a trace's runs are lent, as many as they are; and if the loaded bytes are sure, what is lent is what lies there
+pub record IsAtHand (loaded : HeldBytes) (base : Base) : Type 0 where
   pub there : IsBaseThere loaded base
   pub size : length (lent_base loaded base) ≡ size_of base
+  pub same : IsSure loaded.standing → lent_base loaded base ≡ base_of loaded.bytes base
+
+-- what is lent shows a whole trace with the runs over it
+pub record IsLent (loaded : HeldBytes) (h : Head) (base : Base) (runs : List Run) : Type 0 where
+  pub at_hand : IsAtHand loaded base
   pub fit : Fit runs (size_of base)
   pub whole : IsTrace h (bytes_with_runs (lent_base loaded base) runs)
-  pub same : IsSure loaded.standing → lent_base loaded base ≡ base_of loaded.bytes base
+
+-- what is lent shows no whole trace with the runs over it
+pub record IsBroken (loaded : HeldBytes) (h : Head) (base : Base) (runs : List Run) : Type 0 where
+  pub at_hand : IsAtHand loaded base
+  pub broken : ¬ IsTrace h (bytes_with_runs (lent_base loaded base) runs)

@@ -13,5 +13,6 @@ pub mod Shown
 pub mod Examples
 pub mod Grown
 pub mod Faults
+pub mod Reread
 pub mod WindowIn
 pub mod Windows

@@ -1,5 +1,6 @@
 -- The bytes of a pass that were read and are not taken yet.
-use Rattle.std.specs.Prelude.{ℕ, ◌≡◌, ◌+◌, ◌≤◌, ◌⊎◌, List, length, drop}
+use Rattle.std.specs.Prelude.{ℕ, ◌≡◌, ◌+◌, ◌<◌, ◌≤◌, ◌⊎◌, List, length, drop}
+use Rattle.base_file.specs.HeldBytes.{HeldBytes}
 use Rattle.frame_cut.specs.declared.load_fault.LoadFault.{LoadFault}
 use Rattle.frame_cut.specs.declared.load_fault.LoadFault.TheVariants.{ReadFailed, OutOfMemory}
 
@@ -21,3 +22,7 @@ pub record IsNextOf (read : List ℕ) (at : ℕ) (next : List ℕ) : Type 0 wher
 -- a read failed, or memory was refused
 abbrev pub IsFaultOfPass : LoadFault → Type 0
 IsFaultOfPass fault = (fault ≡ ReadFailed) ⊎ (fault ≡ OutOfMemory)
+
+-- a file that is said to have so many bytes was not read on: a read failed meanwhile; or one gave nothing, where it has fewer
+abbrev pub IsCutShort : (size : ℕ) (before now : HeldBytes) → Type 0
+IsCutShort size before now = (before.failures < now.failures) ⊎ ((before.ended < now.ended) × (length now.bytes < size))

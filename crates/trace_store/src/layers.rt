@@ -1,13 +1,12 @@
 // The bytes of one trace, held in little: what lies under its runs, and the runs.
 ghost use Rattle.std.specs.Prelude.{◌≡◌, ◌+◌, ◌<◌, ◌≤◌, [], ◌∷◌, length, IfErr, IfOk, IfSome, IsErr, OnOk};
 ghost use Rattle.room.specs.Refusals.{Rises};
-ghost use Rattle.base_file.specs.HeldBytes.{IsStill, IsSure};
-ghost use Rattle.frame_cut.specs.Cuts.{IsTrace};
-ghost use Rattle.trace_view.specs.Runs.{Fit, bytes_with_runs};
+ghost use Rattle.base_file.specs.HeldBytes.{IsStill};
+ghost use Rattle.trace_view.specs.Runs.{Fit};
 ghost use Rattle.trace_view.specs.Puts.{contents, ShowPut};
-ghost use Rattle.trace_store.specs.Slots.{base_of, size_of, HasRoomFor, IsInside, IsWholeRange};
-ghost use Rattle.trace_store.specs.Faults.{IsFaultOfBase, IsFaultOfTrace};
-ghost use Rattle.trace_store.specs.Lent.{lent_base, IsBaseThere, IsLent};
+ghost use Rattle.trace_store.specs.Slots.{size_of, HasRoomFor, IsInside, IsWholeRange};
+ghost use Rattle.trace_store.specs.Faults.{IsFaultOf};
+ghost use Rattle.trace_store.specs.Lent.{lent_base, IsAtHand, IsBaseThere, IsBroken, IsLent};
 ghost use Rattle.trace_store.specs.Layers.{added_of, base_of_kind, base_of_under, extent_of, laid_over, layers_of_kind, runs_of_kind};
 ghost use Rattle.trace_store.specs.declared.base.Base.TheVariants.{Added, Loaded};
 
@@ -157,7 +156,7 @@ impl Layers {
 
     // Reads the bytes under the runs, where they are on disk, and tests that with these runs over
     // them they are a whole trace: so what is lent then shows one, whatever the file gives. Where
-    // it is none, and that of the load was, a read gave other bytes.
+    // the trace has changed, what is lent shows none.
     pub(crate) fn fetch(
         &self,
         head: &Head,
@@ -169,9 +168,8 @@ impl Layers {
         requires fit { Fit runs.now (size_of self.now.base) }
         ensures still { IsStill loaded.old loaded.new }
         ensures lent { OnOk result (IsLent loaded.new head.now self.now.base runs.now) }
-        ensures fault { IfErr result (IsFaultOfTrace (IsTrace head.now
-            (bytes_with_runs (base_of loaded.old.bytes self.now.base) runs.now))
-            loaded.old loaded.new) }
+        ensures fault { IfErr result (IsFaultOf
+            (IsBroken loaded.new head.now self.now.base runs.now) loaded.old loaded.new) }
     {
         self.read(loaded)?;
         if !is_whole(head, self.lent(loaded), runs) {
@@ -185,12 +183,8 @@ impl Layers {
         requires inside { IsInside loaded.old.bytes self.now.base }
         requires room { HasRoomFor loaded.old self.now.base }
         ensures still { IsStill loaded.old loaded.new }
-        ensures there { OnOk result (IsBaseThere loaded.new self.now.base) }
-        ensures size { OnOk result
-            (length (lent_base loaded.new self.now.base) ≡ size_of self.now.base) }
-        ensures same { OnOk result (IsSure loaded.new.standing →
-            lent_base loaded.new self.now.base ≡ base_of loaded.new.bytes self.now.base) }
-        ensures fault { IfErr result (IsFaultOfBase loaded.old loaded.new) }
+        ensures at_hand { OnOk result (IsAtHand loaded.new self.now.base) }
+        ensures fault { IfErr result (IsFaultOf ⊥ loaded.old loaded.new) }
     {
         match self.extent() {
             Some(extent) => loaded.fetch(extent.start, extent.length as usize),

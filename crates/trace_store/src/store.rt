@@ -2,14 +2,14 @@
 ghost use Rattle.std.specs.Prelude.{◌≡◌, ℕ, ◌+◌, ◌-◌, ◌/◌, ◌%◌, ◌^◌, ◌<◌, ◌≤◌, All, [], ◌∷◌, length, take, drop, Some, None, option_copied, slice_index_or, slice_set, IfErr, IfOk, IfSome, IsErr, IsErrOf, IsFalse, IsOk, IsTrue, OnOk, OnErr, slice_get};
 ghost use Rattle.std.specs.List.{insert, remove, swap};
 ghost use Rattle.room.specs.Refusals.{Rises};
-ghost use Rattle.base_file.specs.HeldBytes.{InMemory, OnPass, after_pass, IsInMemory, IsStill, IsSure};
+ghost use Rattle.base_file.specs.HeldBytes.{InMemory, OnPass, after_pass, IsInMemory, IsSure};
 ghost use Rattle.frame_cut.specs.Cuts.{IsTrace};
 ghost use Rattle.frame_cut.specs.Layout.{bytes_at};
 ghost use Rattle.frame_cut.specs.Splice.{splice};
 ghost use Rattle.trace_seq.specs.Order.{id_at};
 ghost use Rattle.trace_view.specs.Runs.{Fit, bytes_with_runs};
 ghost use Rattle.trace_view.specs.Shown.{head_of, bytes_of as shown_bytes};
-ghost use Rattle.trace_store.specs.Faults.{IsFaultOfFetch};
+ghost use Rattle.trace_store.specs.Faults.{IsFaultOf};
 ghost use Rattle.trace_store.specs.Slots.{base_of, HasRoomFor, IsHeldUnder, IsInside, IsStore};
 ghost use Rattle.frame_cut.specs.Parts.{put_each_at};
 ghost use Rattle.trace_store.specs.Each.{part_of, ArePutRuns, ArePutEach};
@@ -44,9 +44,10 @@ pub struct TraceStore<T: Copy> {
 impl<T: Copy> TraceStore<T> {
     ghost use Rattle.trace_store.specs.Ahead.{traces_moved, traces_then, traces_with, AreRunsFrom, AreRunsOf, IsReady};
     ghost use Rattle.trace_store.specs.Stores.{bases_of, payload_under, traces_of, payloads_of, payloads_moved, payloads_then};
-    ghost use Rattle.trace_store.specs.Fetched.{trace_with, IsFetched, IsFetchedThen, IsFetchedWith, MayLie};
+    ghost use Rattle.trace_store.specs.Fetched.{trace_with, HasChanged, HasChangedThen, HasChangedWith, IsFetched, IsFetchedThen, IsFetchedWith, MayLie};
     ghost use Rattle.trace_store.specs.Grown.{HasMore};
-    ghost use Rattle.trace_store.specs.Windows.{block_of, IsFaultOfPass, IsNextOf};
+    ghost use Rattle.trace_store.specs.Reread.{IsReread};
+    ghost use Rattle.trace_store.specs.Windows.{block_of, IsCutShort, IsFaultOfPass, IsNextOf};
     ghost use Rattle.trace_store.specs.Swapped.{with_swapped, ArePlaces};
 
     /// No traces yet over a file that was loaded into memory, with memory for so many slots.
@@ -110,7 +111,9 @@ impl<T: Copy> TraceStore<T> {
         ensures failed { IsErrOf result LoadFault.ReadFailed →
             self.old.loaded.standing ≡ OnPass →
             n ≤ length window.old.bytes + (size - length self.old.loaded.bytes) →
-            self.old.loaded.failures < self.new.loaded.failures }
+            IsCutShort size self.old.loaded self.new.loaded }
+        ensures unfailed { OnOk result
+            (self.new.loaded.failures ≡ self.old.loaded.failures) }
         ensures memory { Rises (IsErrOf result LoadFault.OutOfMemory) room.old room.new }
     {
         window.hold(room, &mut self.loaded, n, size)
@@ -125,6 +128,9 @@ impl<T: Copy> TraceStore<T> {
         ensures more { IfOk result (λ end. IsFalse end →
             length self.old.loaded.bytes < length self.new.loaded.bytes) }
         ensures failed { IsErr result → self.old.loaded.failures < self.new.loaded.failures }
+        ensures unfailed { OnOk result
+            (self.new.loaded.failures ≡ self.old.loaded.failures) }
+        ensures ended { self.new.loaded.ended ≡ self.old.loaded.ended }
     {
         self.loaded.is_at_end()
     }
@@ -142,6 +148,7 @@ impl<T: Copy> TraceStore<T> {
         ensures bytes { result.loaded.bytes ≡ self.loaded.bytes }
         ensures standing { result.loaded.standing ≡ after_pass self.loaded.standing }
         ensures failures { result.loaded.failures ≡ self.loaded.failures }
+        ensures ended { result.loaded.ended ≡ self.loaded.ended }
         ensures most { ¬ IsInMemory self.loaded.standing →
             result.loaded.most ≡ length room.items }
         ensures front { ¬ IsInMemory self.loaded.standing →
@@ -240,20 +247,16 @@ impl<T: Copy> TraceStore<T> {
     }
 
     /// Reads the bytes of trace p, where they are on disk: it can be shown then. Refused where the
-    /// file failed or has fewer bytes than it had, where what the file gives now is no whole trace,
-    /// so that it is not what was loaded, and while the file is being passed; in memory never.
+    /// file failed or has fewer bytes than it had, where what was read last of this very trace is
+    /// no whole trace, so that it is not what was loaded, and while the file is being passed; in
+    /// memory never.
     pub fn fetch(&mut self, p: u32) -> Result<(), ReadFault>
         requires first { 1 ≤ p }
         requires last { p ≤ length (traces_of self.old) }
-        ensures head { self.new.head ≡ self.old.head }
-        ensures order { self.new.order ≡ self.old.order }
-        ensures slots { self.new.slots ≡ self.old.slots }
-        ensures loaded { IsStill self.old.loaded self.new.loaded }
-        ensures bases { bases_of self.new ≡ bases_of self.old }
-        ensures traces { traces_of self.new ≡ traces_of self.old }
-        ensures payloads { payloads_of self.new ≡ payloads_of self.old }
+        ensures reread { IsReread self.old self.new }
         ensures fetched { OnOk result (IsFetched self.new p) }
-        ensures fault { IfErr result (IsFaultOfFetch self.old.loaded self.new.loaded) }
+        ensures fault { IfErr result (IsFaultOf (HasChanged self.new p)
+            self.old.loaded self.new.loaded) }
         ensures memory { IsInMemory self.old.loaded.standing → IsOk result }
         ensures same { IsInMemory self.old.loaded.standing → self.new ≡ self.old }
     {
@@ -274,21 +277,16 @@ impl<T: Copy> TraceStore<T> {
     }
 
     /// Reads the bytes of the trace that would be trace p with the edit that is prepared. Refused
-    /// as `fetch`.
+    /// as `fetch`, of this very trace.
     pub fn fetch_then(&mut self, p: u32, prepared: &Prepared) -> Result<(), ReadFault>
         requires ready { IsReady self.old prepared.now }
         requires first { 1 ≤ p }
         requires last { p ≤ length (traces_of self.old) }
-        ensures head { self.new.head ≡ self.old.head }
-        ensures order { self.new.order ≡ self.old.order }
-        ensures slots { self.new.slots ≡ self.old.slots }
-        ensures loaded { IsStill self.old.loaded self.new.loaded }
-        ensures bases { bases_of self.new ≡ bases_of self.old }
-        ensures traces { traces_of self.new ≡ traces_of self.old }
-        ensures payloads { payloads_of self.new ≡ payloads_of self.old }
+        ensures reread { IsReread self.old self.new }
         ensures ready { IsReady self.new prepared.now }
         ensures fetched { OnOk result (IsFetchedThen self.new p prepared.now) }
-        ensures fault { IfErr result (IsFaultOfFetch self.old.loaded self.new.loaded) }
+        ensures fault { IfErr result (IsFaultOf (HasChangedThen self.new p prepared.now)
+            self.old.loaded self.new.loaded) }
         ensures memory { IsInMemory self.old.loaded.standing → IsOk result }
         ensures same { IsInMemory self.old.loaded.standing → self.new ≡ self.old }
     {
@@ -322,15 +320,11 @@ impl<T: Copy> TraceStore<T> {
         requires first { 1 ≤ p }
         requires last { p ≤ length (traces_of self.old) }
         requires laid { MayLie self.old p (option_copied laid) }
-        ensures head { self.new.head ≡ self.old.head }
-        ensures order { self.new.order ≡ self.old.order }
-        ensures slots { self.new.slots ≡ self.old.slots }
-        ensures loaded { IsStill self.old.loaded self.new.loaded }
-        ensures bases { bases_of self.new ≡ bases_of self.old }
-        ensures traces { traces_of self.new ≡ traces_of self.old }
-        ensures payloads { payloads_of self.new ≡ payloads_of self.old }
+        ensures reread { IsReread self.old self.new }
         ensures fetched { OnOk result (IsFetchedWith self.new p (option_copied laid.entry)) }
-        ensures fault { IfErr result (IsFaultOfFetch self.old.loaded self.new.loaded) }
+        ensures fault { IfErr result (IsFaultOf
+            (HasChangedWith self.new p (option_copied laid.entry))
+            self.old.loaded self.new.loaded) }
         ensures memory { IsInMemory self.old.loaded.standing → IsOk result }
         ensures same { IsInMemory self.old.loaded.standing → self.new ≡ self.old }
     {

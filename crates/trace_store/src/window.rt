@@ -1,5 +1,5 @@
 // The bytes of a pass that were read and are not taken yet.
-ghost use Rattle.std.specs.Prelude.{ℕ, ◌≡◌, ◌+◌, ◌-◌, ◌<◌, ◌≤◌, ◌++◌, [], length, take, drop, IfErr, IfOk, IsErr, IsErrOf, OnErr, OnOk};
+ghost use Rattle.std.specs.Prelude.{ℕ, ◌≡◌, ◌⊎◌, ◌+◌, ◌-◌, ◌<◌, ◌≤◌, ◌++◌, [], length, take, drop, IfErr, IfOk, IsErr, IsErrOf, OnErr, OnOk};
 ghost use Rattle.room.specs.Refusals.{Rises};
 ghost use Rattle.base_file.specs.HeldBytes.{HasGrown, OnPass};
 
@@ -31,7 +31,7 @@ impl Model for Window {
 }
 
 impl Window {
-    ghost use Rattle.trace_store.specs.Windows.{block_of, IsFaultOfPass, IsNextOf};
+    ghost use Rattle.trace_store.specs.Windows.{block_of, IsCutShort, IsFaultOfPass, IsNextOf};
 
     /// No bytes yet. Takes no memory.
     pub fn new(alloc: Global) -> Window
@@ -94,10 +94,12 @@ impl Window {
         ensures block { block_of self.old ≤ block_of self.new }
         ensures fault { IfErr result IsFaultOfPass }
 
-        // Of a file that is being passed, and is said to have these bytes, a read failed then.
+        // Of a file that is being passed, and is said to have these bytes, a read failed then, or
+        // gave nothing.
         ensures failed { IsErrOf result LoadFault.ReadFailed → held.old.standing ≡ OnPass →
             n ≤ length self.old.bytes + (size - length held.old.bytes) →
-            held.old.failures < held.new.failures }
+            IsCutShort size held.old held.new }
+        ensures unfailed { OnOk result (held.new.failures ≡ held.old.failures) }
         ensures memory { Rises (IsErrOf result LoadFault.OutOfMemory) room.old room.new }
     {
         if self.make_room(room, n).is_err() {
@@ -158,7 +160,8 @@ impl Window {
         ensures failed { IsErr result → held.old.standing ≡ OnPass →
             n ≤ length self.old.bytes + self.old.room →
             n ≤ length self.old.bytes + (size - length held.old.bytes) →
-            held.old.failures < held.new.failures }
+            IsCutShort size held.old held.new }
+        ensures unfailed { OnOk result (held.new.failures ≡ held.old.failures) }
     {
         'turns: while self.len() < n {
             if self.read_some(held, size)? == 0 {
@@ -182,7 +185,8 @@ impl Window {
         ensures some { IfOk result (λ n. held.old.standing ≡ OnPass →
             length held.old.bytes < size → 0 < self.old.room → 0 < n) }
         ensures fault { IfErr result (λ fault. fault ≡ LoadFault.ReadFailed) }
-        ensures failed { IsErr result → held.old.failures < held.new.failures }
+        ensures failed { IsErr result → IsCutShort size held.old held.new }
+        ensures unfailed { OnOk result (held.new.failures ≡ held.old.failures) }
     {
         let left = size - held.length();
         let room = self.block.len() - self.end;
@@ -205,7 +209,9 @@ fn read_into(held: &mut Held, block: &mut [u8], at: usize, n: usize) -> Result<u
     ensures failed { OnErr result (held.new.bytes ≡ held.old.bytes) }
     ensures front { take at block.new ≡ take at block.old }
     ensures some { IfOk result (λ count. held.old.standing ≡ OnPass → 0 < n → 0 < count) }
-    ensures refused { IsErr result → held.old.failures < held.new.failures }
+    ensures refused { IsErr result → (held.old.failures < held.new.failures) ⊎
+        ((0 < n) × (held.old.ended < held.new.ended)) }
+    ensures unfailed { OnOk result (held.new.failures ≡ held.old.failures) }
 {
     held.read_on(&mut block[at..at + n])
 }

@@ -21,10 +21,10 @@ use Rattle.frame_cut.proofs.LaidLemmas.{cut_from, ends_there, laid_from, joined-
 use Rattle.trace_store.specs.declared.store.TraceStore.{TraceStore}
 use Rattle.trace_store.specs.Grown.{HasMore}
 use Rattle.trace_store.specs.Stores.{traces_of}
-use Rattle.trace_store.specs.Windows.{block_of, IsFaultOfPass, IsNextOf, WindowBytes}
+use Rattle.trace_store.specs.Windows.{block_of, IsCutShort, IsFaultOfPass, IsNextOf, WindowBytes}
 use Rattle.trace_store.proofs.GrownLemmas.{slice_grown}
 use Rattle.edit_overlay.specs.Held.{volume_with}
-use Rattle.volume_loading.specs.PassedFile.{IsGivenUp, IsPassFault}
+use Rattle.volume_loading.specs.PassedFile.{IsGivenUp, IsPassFault, MayGiveUp}
 use Rattle.volume_loading.specs.Passing.{IsPassing, IsWalked}
 use Rattle.volume_loading.specs.PassReads.{HasLengthAt, IsFaultOfHold, IsHeadFault, IsHeadOf, IsTraceFault}
 use Rattle.volume_loading.specs.declared.passing.Passing.TheInside.{Inside}
@@ -68,15 +68,20 @@ insert_last ts n t is =
 
 -- ---- what was not read
 
+-- a file that was cut short, for which the pass may give up
+pub may_give_up : (size : ℕ) (before now : HeldBytes) → IsCutShort size before now → MayGiveUp size now.bytes now.failures now.ended
+may_give_up size before now (inl failed) = inl (omega (arith, failed))
+may_give_up size before now (inr ended) = inr (inl (omega (arith, ended.0), ended.1))
+
 -- a window that was not filled
-pub hold_fault : (size : ℕ) (before now : HeldBytes) (n w : ℕ) (fault : LoadFault) → IsFaultOfPass fault → (fault ≡ ReadFailed → before.standing ≡ OnPass → n ≤ w + (size - length before.bytes) → before.failures < now.failures)
+pub hold_fault : (size : ℕ) (before now : HeldBytes) (n w : ℕ) (fault : LoadFault) → IsFaultOfPass fault → (fault ≡ ReadFailed → before.standing ≡ OnPass → n ≤ w + (size - length before.bytes) → IsCutShort size before now)
     → now.standing ≡ before.standing → n ≤ w + (size - length before.bytes) → IsFaultOfHold size now fault
 hold_fault size before now n w fault (inl failed) told standing fits =
-    inl (failed, λ pass. let rose : before.failures < now.failures = told failed (sym standing ∙ pass) fits in inl (omega (arith, rose)))
+    inl (failed, λ pass. may_give_up size before now (told failed (sym standing ∙ pass) fits))
 hold_fault size before now n w fault (inr memory) told standing fits = inr memory
 
 -- the pass over a file gives up
-pub given_up : (held : HeldBytes) (size : ℕ) (fault : LoadFault) → held.standing ≡ OnPass → IsFaultOfHold size held fault → IsGivenUp size held.bytes held.failures fault
+pub given_up : (held : HeldBytes) (size : ℕ) (fault : LoadFault) → held.standing ≡ OnPass → IsFaultOfHold size held fault → IsGivenUp size held.bytes held.failures held.ended fault
 given_up held size fault pass (inl failed) = inl (failed.0, failed.1 pass)
 given_up held size fault pass (inr memory) = inr memory
 
@@ -98,7 +103,7 @@ last_fits ts us t n same fits each = rw same (All-append (λ (x : List ℕ). len
 
 -- ---- the head
 
-pub head_fault : (held : HeldBytes) (size : ℕ) (reading : Reading) (limits : Limits) (fault : LoadFault) → held.standing ≡ OnPass → length held.bytes ≤ size → IsFaultOfHold size held fault ⊎ IsHeadFault held.bytes size reading limits fault → IsPassFault size reading limits held.bytes held.failures fault
+pub head_fault : (held : HeldBytes) (size : ℕ) (reading : Reading) (limits : Limits) (fault : LoadFault) → held.standing ≡ OnPass → length held.bytes ≤ size → IsFaultOfHold size held fault ⊎ IsHeadFault held.bytes size reading limits fault → IsPassFault size reading limits held.bytes held.failures held.ended fault
 head_fault held size reading limits fault pass within (inl given) = inl (given_up held size fault pass given)
 head_fault held size reading limits fault pass within (inr told) = inr (within, λ file begun. inl (told file begun))
 
@@ -172,7 +177,7 @@ module _ {T : Type 0} where
   number_of file s es is = ap length is ∙ length-map es (bytes_at file)
 
   pub trace_fault : (p : Inside T) (s : TraceStore T) (fault : LoadFault) → IsPassing p → HasMore p.store s → length s.loaded.bytes ≤ p.size → p.at + 3200 * p.store.head.trailer < p.size
-      → IsFaultOfHold p.size s.loaded fault ⊎ IsTraceFault s.loaded.bytes p.size p.reading p.store.head p.limits (length (traces_of p.store) + 1) p.at fault → IsPassFault p.size p.reading p.limits s.loaded.bytes s.loaded.failures fault
+      → IsFaultOfHold p.size s.loaded fault ⊎ IsTraceFault s.loaded.bytes p.size p.reading p.store.head p.limits (length (traces_of p.store) + 1) p.at fault → IsPassFault p.size p.reading p.limits s.loaded.bytes s.loaded.failures s.loaded.ended fault
   trace_fault p s fault passing more within some (inl given) = inl (given_up s.loaded p.size fault (more.loaded.standing ∙ passing.standing) given)
   trace_fault p s fault passing more within some (inr told) = inr (
     within,

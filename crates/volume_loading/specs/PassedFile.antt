@@ -14,7 +14,8 @@ use Rattle.edit_overlay.specs.Reads.{HaveAgreed}
 
 -- what is shown of it: its head, how it is read and within which limits, how many bytes it has, those that were read so far,
 -- where the next trace begins, the traces so far with their payloads, the trace that is shown, no bytes where none is, how
--- many bytes of no trace stand there, once that is known, how often a trace was shown, and how many reads failed
+-- many bytes of no trace stand there, once that is known, how often a trace was shown, how many reads failed, and how many gave
+-- nothing where some bytes were to come
 pub record PassedFile (T : Type 0) : Type 0 where
   pub head : Head
   pub reading : Reading
@@ -28,12 +29,13 @@ pub record PassedFile (T : Type 0) : Type 0 where
   pub tail : ℕ
   pub looks : ℕ
   pub failures : ℕ
+  pub ended : ℕ
 
 module _ {T : Type 0} where
   -- the same where these bytes were read and this trace is shown, or so many bytes of no trace stand there, after so many looks,
-  -- and so many failed reads
-  abbrev pub with_shown : PassedFile T → List ℕ → List ℕ → (tail looks failures : ℕ) → PassedFile T
-  with_shown p read shown tail looks failures = record p { read = read; shown = shown; tail = tail; looks = looks; failures = failures }
+  -- so many failed reads, and so many that gave nothing
+  abbrev pub with_shown : PassedFile T → List ℕ → List ℕ → (tail looks failures ended : ℕ) → PassedFile T
+  with_shown p read shown tail looks failures ended = record p { read = read; shown = shown; tail = tail; looks = looks; failures = failures; ended = ended }
 
   -- the same with the trace that is shown behind the others, with this payload
   abbrev pub with_passed : PassedFile T → T → PassedFile T
@@ -87,14 +89,16 @@ abbrev pub IsRefusedBy : ℕ → Reading → Limits → List ℕ → LoadFault �
 IsRefusedBy size reading limits read fault =
     (length read ≤ size) × ((file : List ℕ) → BeginsWith read size file → IsRefused file reading limits fault)
 
--- a pass over a file that is said to have so many bytes may give up, where these were read: a read failed, or there are more
-abbrev pub MayGiveUp : (size : ℕ) (read : List ℕ) (failures : ℕ) → Type 0
-MayGiveUp size read failures = (0 < failures) ⊎ (size < length read)
+-- a pass over a file that is said to have so many bytes may give up, where these were read: a read failed; or one gave nothing
+-- where some bytes were to come, and the file has fewer; or there are more
+abbrev pub MayGiveUp : (size : ℕ) (read : List ℕ) (failures ended : ℕ) → Type 0
+MayGiveUp size read failures ended = (0 < failures) ⊎ ((0 < ended) × (length read < size)) ⊎ (size < length read)
 
 -- it gives up for this reason: for a read, where it may, or memory was refused
-abbrev pub IsGivenUp : (size : ℕ) (read : List ℕ) (failures : ℕ) → LoadFault → Type 0
-IsGivenUp size read failures fault = ((fault ≡ ReadFailed) × MayGiveUp size read failures) ⊎ (fault ≡ OutOfMemory)
+abbrev pub IsGivenUp : (size : ℕ) (read : List ℕ) (failures ended : ℕ) → LoadFault → Type 0
+IsGivenUp size read failures ended fault = ((fault ≡ ReadFailed) × MayGiveUp size read failures ended) ⊎ (fault ≡ OutOfMemory)
 
--- a pass that has read these bytes, where so many reads failed, is refused for this reason: it gives up, or the bytes refuse the file
-abbrev pub IsPassFault : (size : ℕ) → Reading → Limits → (read : List ℕ) (failures : ℕ) → LoadFault → Type 0
-IsPassFault size reading limits read failures fault = IsGivenUp size read failures fault ⊎ IsRefusedBy size reading limits read fault
+-- a pass that has read these bytes, where so many reads failed and so many gave nothing, is refused for this reason: it gives up,
+-- or the bytes refuse the file
+abbrev pub IsPassFault : (size : ℕ) → Reading → Limits → (read : List ℕ) (failures ended : ℕ) → LoadFault → Type 0
+IsPassFault size reading limits read failures ended fault = IsGivenUp size read failures ended fault ⊎ IsRefusedBy size reading limits read fault

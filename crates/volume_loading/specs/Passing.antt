@@ -33,6 +33,7 @@ passed_of p = record {
   tail = p.tail;
   looks = p.looks;
   failures = p.store.loaded.failures;
+  ended = p.store.loaded.ended;
 }
 
 -- the store has this head of the file, and its traces up to a place

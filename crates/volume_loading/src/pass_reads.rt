@@ -41,6 +41,7 @@ pub fn read_head(
     ensures head { IfOk result (IsHeadOf held.new.bytes size reading limits) }
     ensures refused { IfErr result (λ fault. IsFaultOfHold size held.new fault ⊎
         IsHeadFault held.new.bytes size reading limits fault) }
+    ensures unfailed { OnOk result (held.new.failures ≡ held.old.failures) }
     ensures memory { Rises (IsErrOf result LoadFault.OutOfMemory) room.old room.new }
 {
     'turns: loop {
@@ -74,6 +75,7 @@ pub fn read_front(
     ensures block { OnOk result (n ≤ block_of window.new) }
     ensures reason { IfErr result IsFaultOfPass }
     ensures fault { n ≤ size → IfErr result (IsFaultOfHold size held.new) }
+    ensures unfailed { OnOk result (held.new.failures ≡ held.old.failures) }
     ensures memory { Rises (IsErrOf result LoadFault.OutOfMemory) room.old room.new }
 {
     window.hold(room, held, n, size)?;
@@ -115,6 +117,7 @@ pub fn next_whole<T: Copy>(
     ensures refused { IfErr result (λ fault. IsFaultOfHold size store.new.loaded fault ⊎
         IsTraceFault store.new.loaded.bytes size reading store.old.head limits
         (length (traces_of store.old) + 1) at fault) }
+    ensures unfailed { OnOk result (store.new.loaded.failures ≡ store.old.loaded.failures) }
     ensures memory { Rises (IsErrOf result LoadFault.OutOfMemory) room.old room.new }
 {
     let left = size - at - TEXT_BLOCK_BYTES as u64 * u64::from(store.head.trailer);
@@ -148,6 +151,7 @@ pub fn skip_bytes<T: Copy>(
     ensures reason { IfErr result IsFaultOfPass }
     ensures fault { (at : ℕ) → IsNextOf store.old.loaded.bytes at window.old.bytes →
         at + n ≤ size → IfErr result (IsFaultOfHold size store.new.loaded) }
+    ensures unfailed { OnOk result (store.new.loaded.failures ≡ store.old.loaded.failures) }
     ensures memory { Rises (IsErrOf result LoadFault.OutOfMemory) room.old room.new }
 {
     let mut left = n;
@@ -177,6 +181,7 @@ pub fn last_bytes<T: Copy>(
     ensures all { OnOk result (length store.new.loaded.bytes ≡ size) }
     ensures back { IfOk result (λ back. back.items ≡ drop at store.new.loaded.bytes) }
     ensures fault { IfErr result (IsFaultOfHold size store.new.loaded) }
+    ensures unfailed { OnOk result (store.new.loaded.failures ≡ store.old.loaded.failures) }
     ensures memory { Rises (IsErrOf result LoadFault.OutOfMemory) room.old room.new }
 {
     let n = (size - at) as usize;

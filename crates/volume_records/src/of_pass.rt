@@ -47,11 +47,12 @@ pub fn with_records_on_disk(
     ensures looks { IfOk result
         (λ r. RisesAtMost passing.looks r.0.looks (count_of r.0.volume)) }
     ensures standing { IfOk result (λ r. (r.0.loaded.on_disk ≡ true) × HaveAgreed r.0.reads) }
+    ensures unfailed { IfOk result (λ r. r.0.reads.failures ≡ passing.failures) }
     ensures bytes { IfOk result (λ r. r.0.loaded.bytes ≡ bytes_of r.0.volume) }
     ensures on { IfOk result (λ r. HasReadOn passing.read r.0.loaded.bytes) }
     ensures refused { IfErr result
         (λ e. IsPassFault passing.size passing.reading passing.limits e.read e.failures
-        e.fault) }
+        e.ended e.fault) }
     ensures read { IfErr result (λ e. HasReadOn passing.read e.read) }
     ensures memory { Rises (IsErrAnd result (λ e. e.fault ≡
         LoadFault.OutOfMemory)) room.old room.new }
@@ -86,11 +87,12 @@ fn pass_records(
     ensures all { OnOk result (HasAllTraces passing.new) }
     ensures records { OnOk result (HasRecords fields.now.pairs passing.new) }
     ensures same { OnOk result (IsSameFile passing.old passing.new) }
+    ensures unfailed { OnOk result (passing.new.failures ≡ passing.old.failures) }
     ensures looks { OnOk result
         (RisesAtMost passing.old.looks passing.new.looks (length passing.new.traces)) }
     ensures refused { IfErr result
         (IsPassFault passing.old.size passing.old.reading passing.old.limits passing.new.read
-        passing.new.failures) }
+        passing.new.failures passing.new.ended) }
     ensures memory { Rises (IsErrOf result LoadFault.OutOfMemory) room.old room.new }
 {
     'turns: loop {

@@ -3,3 +3,4 @@ pub mod PlaceLemmas
 pub mod SpanLemmas
 pub mod MergeLemmas
 pub mod RowsLemmas
+pub mod OutsideLemmas

@@ -82,6 +82,15 @@ impl Window<i32> for Interval {
     ghost placed = { λ w. interval_placed w.lowest w.places };
 }
 
+impl Interval {
+    // The lowest number that has a place, where one has.
+    pub(crate) fn lowest(&self) -> i32
+        ensures { result ≡ self.now.lowest }
+    {
+        self.lowest
+    }
+}
+
 /// The least and the greatest of whole numbers.
 #[derive(Clone, Copy)]
 pub struct IntervalExtent {

@@ -20,11 +20,13 @@ mod offset_rectangle;
 mod rectangle;
 mod rows;
 mod slots;
+mod wide_interval;
 mod window;
 mod window_counts;
 
 pub use crate::interval::{Interval, IntervalExtent};
 pub use crate::offset_rectangle::{OffsetExtent, OffsetRectangle};
 pub use crate::rectangle::{Rectangle, RectangleExtent};
+pub use crate::wide_interval::{WideExtent, WideInterval};
 pub use crate::window::{Extent, Window};
-pub use crate::window_counts::{CellCounts, LineCounts, TripleCounts, WindowCounts};
+pub use crate::window_counts::{CellCounts, LineCounts, SampleCounts, TripleCounts, WindowCounts};

@@ -180,6 +180,13 @@ pub struct OffsetExtent {
     votes: u64,
 }
 
+impl OffsetExtent {
+    /// The least and the greatest inline and crossline. Takes no memory.
+    pub fn cells(&self) -> RectangleExtent {
+        self.cells
+    }
+}
+
 impl Extent<(i32, i32, i32)> for OffsetExtent {
     fn none() -> OffsetExtent {
         OffsetExtent {

@@ -9,6 +9,7 @@ use crate::listing::{listed, merged};
 use crate::offset_rectangle::OffsetRectangle;
 use crate::rectangle::Rectangle;
 use crate::slots::Slots;
+use crate::wide_interval::WideInterval;
 use crate::window::{Extent, Window};
 use key_counts::{Counter, Counts, FromCount};
 use room::{OutOfMemory, Room};
@@ -26,6 +27,9 @@ pub struct WindowCounts<K: Copy + Ord, W: Window<K>> {
 
 /// Counts of inlines, of crosslines or of offsets.
 pub type LineCounts = WindowCounts<i32, Interval>;
+
+/// Counts of samples.
+pub type SampleCounts = WindowCounts<i128, WideInterval>;
 
 /// Counts of pairs of inline and crossline.
 pub type CellCounts = WindowCounts<(i32, i32), Rectangle>;

@@ -1,7 +1,8 @@
 use Rattle.std.proofs.Common.{[], ℕ, List, length, refl, ap, ◌∙◌, arith}
 use Rattle.std.proofs.lemmas.Result.{err_from_is_err_and}
 use Rattle.edit_overlay.specs.Saving.{progress}
-use Rattle.edit_overlay.proofs.SavingLemmas.{comes_on, comes_over, nothing, read_refused, refused_at, stops_over, sure_then, IsReread-refl, IsReread-trans}
+use Rattle.trace_store.proofs.FallLemmas.{IsReread-refl, IsReread-trans}
+use Rattle.edit_overlay.proofs.SavingLemmas.{comes_on, comes_over, nothing, read_refused, refused_at, stops_over, sure_then}
 use Rattle.edit_overlay.proofs.StandingLemmas.{lends_still}
 use Rattle.edit_overlay.proofs.writing_out.flush.Goals as goal
 

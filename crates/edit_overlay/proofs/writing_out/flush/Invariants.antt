@@ -1,6 +1,6 @@
 use Rattle.std.proofs.Common.{◌≡◌, ◌+◌, ◌-◌, []}
 use Rattle.base_file.specs.HeldBytes.{IsSure}
-use Rattle.edit_overlay.specs.Held.{IsReread}
+use Rattle.trace_store.specs.Reread.{IsReread}
 use Rattle.edit_overlay.specs.Saving.{progress}
 use Rattle.edit_overlay.proofs.SavingLemmas.{Comes}
 use Rattle.edit_overlay.proofs.writing_out.flush.Given as goal

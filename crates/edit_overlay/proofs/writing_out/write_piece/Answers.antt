@@ -51,16 +51,10 @@ returns-in-Err-clause-read g c = (
 )
 
 pub returns-in_err-write_part-in-Ok-clause-same : goal.returns-in_err-write_part-in-Ok-clause-same
-returns-in_err-write_part-in-Ok-clause-same g c =
-    let f = c.fetch_loaded.ensures in
-    record { head = f.head; order = f.order; slots = f.slots; loaded = f.loaded }
+returns-in_err-write_part-in-Ok-clause-same g c = c.fetch_loaded.ensures.reread
 
 pub returns-in_ok-write_part-in-Ok-clause-same : goal.returns-in_ok-write_part-in-Ok-clause-same
-returns-in_ok-write_part-in-Ok-clause-same g c =
-    let f = c.fetch_loaded.ensures in
-    record { head = f.head; order = f.order; slots = f.slots; loaded = f.loaded }
+returns-in_ok-write_part-in-Ok-clause-same g c = c.fetch_loaded.ensures.reread
 
 pub returns-in-Err-clause-same : goal.returns-in-Err-clause-same
-returns-in-Err-clause-same g c =
-    let f = c.fetch_loaded.ensures in
-    record { head = f.head; order = f.order; slots = f.slots; loaded = f.loaded }
+returns-in-Err-clause-same g c = c.fetch_loaded.ensures.reread

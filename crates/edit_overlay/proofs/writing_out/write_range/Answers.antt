@@ -2,7 +2,8 @@ use Rattle.std.proofs.Common.{[], slice_range, refl}
 use Rattle.std.proofs.lemmas.Result.{err_from_is_err_and}
 use Rattle.base_file.proofs.HeldLemmas.{IsStill-refl}
 use Rattle.edit_overlay.specs.Saving.{progress}
-use Rattle.edit_overlay.proofs.SavingLemmas.{nothing, read_refused, refused_at, then_waits, waits_more, IsReread-refl}
+use Rattle.trace_store.proofs.FallLemmas.{IsReread-refl}
+use Rattle.edit_overlay.proofs.SavingLemmas.{nothing, read_refused, refused_at, then_waits, waits_more}
 use Rattle.edit_overlay.proofs.writing_out.write_range.Goals as goal
 
 pub returns-then-from-waiting-clause-same : goal.returns-then-from-waiting-clause-same

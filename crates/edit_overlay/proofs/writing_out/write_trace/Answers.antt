@@ -2,11 +2,13 @@ use Rattle.std.proofs.Common.{◌≡◌, ◌-◌, ◌<◌, [], ℕ, List, length
 use Rattle.std.proofs.lemmas.Result.{err_from_is_err_and}
 use Rattle.base_file.specs.HeldBytes.{IsSure}
 use Rattle.base_file.proofs.HeldLemmas.{memory_stays, IsStill-refl}
-use Rattle.edit_overlay.specs.Held.{IsReread}
 use Rattle.edit_overlay.specs.Saving.{Progress, progress}
 use Rattle.edit_overlay.specs.declared.save_fault.SaveFault.{SaveFault}
+use Rattle.trace_store.specs.Fetched.{HasChanged}
+use Rattle.trace_store.specs.Reread.{IsReread}
 use Rattle.trace_store.specs.Stores.{traces_of}
-use Rattle.edit_overlay.proofs.SavingLemmas.{after_flush, fault_before, fetched_twice, no_reads, nothing, on_ok, range-length, range_trace, read_refused, refused_at, same_bytes, some_bytes, stops_here, stops_on, sure_then, traces_reread, IsReread-trans}
+use Rattle.trace_store.proofs.FallLemmas.{IsReread-trans}
+use Rattle.edit_overlay.proofs.SavingLemmas.{after_flush, fault_before, no_reads, nothing, on_ok, range-length, range_trace, read_refused, refused_at, same_bytes, some_bytes, stops_here, stops_on, sure_then}
 use Rattle.edit_overlay.proofs.StandingLemmas.{fault_told, lends_still, on_disk_else, refused_in_memory}
 use Rattle.edit_overlay.proofs.writing_out.write_trace.Goals as goal
 
@@ -41,27 +43,26 @@ returns-in_err-flush-clause-read g c =
 
 pub fetch-requires-clause-last : goal.fetch-requires-clause-last
 fetch-requires-clause-last g c =
-    omega (arith, c.requires.last, ap (λ (ts : List (List ℕ)). length ts) (traces_reread c.args.store.now c.flush.new.store c.in_ok-flush.ensures.same))
+    omega (arith, c.requires.last, ap (λ (ts : List (List ℕ)). length ts) c.in_ok-flush.ensures.same.traces)
 
 pub write_view-requires : goal.write_view-requires
 write_view-requires g c =
     let s = c.args.store.now in
     let f = c.fetch.ensures in
-    let twice : IsReread s c.fetch.new.self = fetched_twice s c.flush.new.store c.fetch.new.self c.in_ok-flush.ensures.same f.head f.order f.slots f.loaded in
-    omega (arith, c.requires.small, c.in_ok-flush.ensures.count, c.shown.ensures.length, ap (λ (ts : List (List ℕ)). length (get_or ts (c.args.p - 1) [])) (traces_reread s c.fetch.new.self twice))
+    let twice : IsReread s c.fetch.new.self = IsReread-trans s c.flush.new.store c.fetch.new.self c.in_ok-flush.ensures.same f.reread in
+    omega (arith, c.requires.small, c.in_ok-flush.ensures.count, c.shown.ensures.length, ap (λ (ts : List (List ℕ)). length (get_or ts (c.args.p - 1) [])) twice.traces)
 
 pub returns-in-Ok-clause-same : goal.returns-in-Ok-clause-same
 returns-in-Ok-clause-same g c =
-    let f = c.fetch.ensures in
-    fetched_twice c.args.store.now c.flush.new.store c.fetch.new.self c.in_ok-flush.ensures.same f.head f.order f.slots f.loaded
+    IsReread-trans c.args.store.now c.flush.new.store c.fetch.new.self c.in_ok-flush.ensures.same c.fetch.ensures.reread
 
 pub returns-in-Ok-clause-count : goal.returns-in-Ok-clause-count
 returns-in-Ok-clause-count g c =
     let s = c.args.store.now in
     let f = c.fetch.ensures in
-    let twice : IsReread s c.fetch.new.self = fetched_twice s c.flush.new.store c.fetch.new.self c.in_ok-flush.ensures.same f.head f.order f.slots f.loaded in
+    let twice : IsReread s c.fetch.new.self = IsReread-trans s c.flush.new.store c.fetch.new.self c.in_ok-flush.ensures.same f.reread in
     on_ok c.write_view.result
-    (λ count. omega (arith, count, c.in_ok-flush.ensures.count, c.in_ok-flush.ensures.empty, c.shown.ensures.length, ap (λ (ts : List (List ℕ)). length (get_or ts (c.args.p - 1) [])) (traces_reread s c.fetch.new.self twice)))
+    (λ count. omega (arith, count, c.in_ok-flush.ensures.count, c.in_ok-flush.ensures.empty, c.shown.ensures.length, ap (λ (ts : List (List ℕ)). length (get_or ts (c.args.p - 1) [])) twice.traces))
     c.write_view.ensures.count
 
 pub returns-in-Ok-clause-saved : goal.returns-in-Ok-clause-saved
@@ -69,10 +70,10 @@ returns-in-Ok-clause-saved g c =
     let s = c.args.store.now in
     let t : List ℕ = get_or (traces_of s) (c.args.p - 1) [] in
     let f = c.fetch.ensures in
-    let once : IsReread c.flush.new.store c.fetch.new.self = record { head = f.head; order = f.order; slots = f.slots; loaded = f.loaded } in
+    let once : IsReread c.flush.new.store c.fetch.new.self = f.reread in
     let twice : IsReread s c.fetch.new.self = IsReread-trans s c.flush.new.store c.fetch.new.self c.in_ok-flush.ensures.same once in
     λ sure.
-    let shown : _ ≡ t = c.shown.ensures.bytes sure ∙ ap (λ (ts : List (List ℕ)). get_or ts (c.args.p - 1) []) (traces_reread s c.fetch.new.self twice) in
+    let shown : _ ≡ t = c.shown.ensures.bytes sure ∙ ap (λ (ts : List (List ℕ)). get_or ts (c.args.p - 1) []) twice.traces in
     after_flush c.write_view.result _ _ _ _ s.loaded.bytes c.flush.new.waiting c.write_view.new.written t c.in_ok-flush.ensures.empty (c.in_ok-flush.ensures.saved (sure_then c.flush.new.store c.fetch.new.self once sure))
     (same_bytes c.write_view.result _ _ _ _ _ t shown c.write_view.ensures.saved)
 
@@ -81,8 +82,7 @@ returns-in-Ok-clause-read g c = no_reads c.write_view.result c.args.store.now.lo
 
 pub returns-in-Err-clause-same : goal.returns-in-Err-clause-same
 returns-in-Err-clause-same g c =
-    let f = c.fetch.ensures in
-    fetched_twice c.args.store.now c.flush.new.store c.fetch.new.self c.in_ok-flush.ensures.same f.head f.order f.slots f.loaded
+    IsReread-trans c.args.store.now c.flush.new.store c.fetch.new.self c.in_ok-flush.ensures.same c.fetch.ensures.reread
 
 pub returns-in-Err-clause-saved : goal.returns-in-Err-clause-saved
 returns-in-Err-clause-saved g c =
@@ -90,7 +90,7 @@ returns-in-Err-clause-saved g c =
     let t : List ℕ = get_or (traces_of s) (c.args.p - 1) [] in
     let w = c.flush.new.waiting in
     let f = c.fetch.ensures in
-    let once : IsReread c.flush.new.store c.fetch.new.self = record { head = f.head; order = f.order; slots = f.slots; loaded = f.loaded } in
+    let once : IsReread c.flush.new.store c.fetch.new.self = f.reread in
     let at : Progress = progress s.loaded.bytes w in
     let fault : SaveFault = record { written = w.written; read = Some c.in-Err.fault } in
     λ sure.
@@ -103,5 +103,5 @@ returns-in-Err-clause-read g c =
     let s = c.args.store.now in (
       on_disk_else s.loaded.standing (λ memory. refused_in_memory c.fetch.result c.in-Err.fault c.in-Err.is (c.fetch.ensures.memory (memory_stays s.loaded.standing c.flush.new.store.loaded.standing c.in_ok-flush.ensures.same.loaded.standing memory))),
       fault_before s.loaded c.flush.new.store.loaded c.fetch.new.self.loaded c.in-Err.fault c.in_ok-flush.ensures.same.loaded
-          (fault_told c.flush.new.store.loaded c.fetch.new.self.loaded c.in-Err.fault (lends_still s.loaded c.flush.new.store.loaded c.in_ok-flush.ensures.same.loaded c.requires.lends) c.in-Err.ensures.fault),
+          (fault_told c.flush.new.store.loaded c.fetch.new.self.loaded c.in-Err.fault (lends_still s.loaded c.flush.new.store.loaded c.in_ok-flush.ensures.same.loaded c.requires.lends) (λ (changed : HasChanged c.fetch.new.self c.args.p). changed.unsure) c.in-Err.ensures.fault),
     )

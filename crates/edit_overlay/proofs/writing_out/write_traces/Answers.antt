@@ -4,7 +4,8 @@ use Rattle.std.proofs.lemmas.Result.{err_from_is_err_and}
 use Rattle.std.specs.List.{concat}
 use Rattle.edit_overlay.specs.Saving.{Progress, progress}
 use Rattle.trace_store.specs.Stores.{traces_of}
-use Rattle.edit_overlay.proofs.SavingLemmas.{comes_on, comes_over, nothing, read_refused, refused_at, same_come, stops_over, sure_then, trace_reread, traces_next, traces_reread, traces_split, IsReread-refl, IsReread-trans}
+use Rattle.trace_store.proofs.FallLemmas.{IsReread-refl, IsReread-trans}
+use Rattle.edit_overlay.proofs.SavingLemmas.{comes_on, comes_over, nothing, read_refused, refused_at, same_come, stops_over, sure_then, trace_reread, traces_next, traces_split}
 use Rattle.edit_overlay.proofs.StandingLemmas.{lends_still}
 use Rattle.edit_overlay.proofs.writing_out.write_traces.Goals as goal
 
@@ -20,7 +21,7 @@ loop-at-init g c = record {
 pub write_trace-requires-clause-last : goal.write_trace-requires-clause-last
 write_trace-requires-clause-last g c =
     let s = c.args.store.now in
-    omega (arith, c.count-at-end.ensures.traces, ap (λ (ts : List (List ℕ)). length ts) (traces_reread s c.loop-at.store c.loop-at.invariant.same))
+    omega (arith, c.count-at-end.ensures.traces, ap (λ (ts : List (List ℕ)). length ts) c.loop-at.invariant.same.traces)
 
 pub write_trace-requires-clause-lends : goal.write_trace-requires-clause-lends
 write_trace-requires-clause-lends g c = lends_still c.args.store.now.loaded c.loop-at.store.loaded c.loop-at.invariant.same.loaded c.requires.lends

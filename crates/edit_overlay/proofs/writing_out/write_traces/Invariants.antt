@@ -1,7 +1,7 @@
 use Rattle.std.proofs.Common.{◌≡◌, ◌+◌, ◌-◌, ◌≤◌, length, take}
 use Rattle.std.specs.List.{concat}
 use Rattle.base_file.specs.HeldBytes.{IsSure}
-use Rattle.edit_overlay.specs.Held.{IsReread}
+use Rattle.trace_store.specs.Reread.{IsReread}
 use Rattle.edit_overlay.specs.Saving.{progress}
 use Rattle.trace_store.specs.Stores.{traces_of}
 use Rattle.edit_overlay.proofs.SavingLemmas.{Comes}

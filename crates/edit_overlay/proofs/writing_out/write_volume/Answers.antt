@@ -4,11 +4,13 @@ use Rattle.std.specs.List.{concat}
 use Rattle.base_file.specs.HeldBytes.{IsSure}
 use Rattle.base_file.proofs.HeldLemmas.{IsStill-refl}
 use Rattle.frame_cut.specs.Volume.{bytes_of}
-use Rattle.edit_overlay.specs.Held.{volume_with, IsReread}
+use Rattle.edit_overlay.specs.Held.{volume_with}
+use Rattle.trace_store.specs.Reread.{IsReread}
 use Rattle.edit_overlay.specs.Saving.{Progress, progress}
 use Rattle.edit_overlay.specs.declared.waiting.Waiting.{Waiting}
 use Rattle.trace_store.specs.Stores.{traces_of}
-use Rattle.edit_overlay.proofs.SavingLemmas.{begin, comes_on, comes_over, empty_waits, ended_save, front_all, front_headers, front_text, front_traces, goes_over, headers_come, no_read, nothing, on_ok, parts-length, parts_joined, read_over, read_refused, refused_save, stops_over, sure_then, Comes, IsReread-refl, IsReread-trans}
+use Rattle.trace_store.proofs.FallLemmas.{IsReread-refl, IsReread-trans}
+use Rattle.edit_overlay.proofs.SavingLemmas.{begin, comes_on, comes_over, empty_waits, ended_save, front_all, front_headers, front_text, front_traces, goes_over, headers_come, no_read, nothing, on_ok, parts-length, parts_joined, read_over, read_refused, refused_save, stops_over, sure_then, Comes}
 use Rattle.edit_overlay.proofs.StandingLemmas.{lends_still}
 use Rattle.edit_overlay.proofs.writing_out.write_volume.Goals as goal
 

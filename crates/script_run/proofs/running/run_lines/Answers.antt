@@ -5,6 +5,7 @@ use Rattle.script_words.specs.Words.{script_lines}
 use Rattle.line_texts.proofs.OutLemmas.{stays}
 use Rattle.script_run.specs.Causes.{failures}
 use Rattle.script_run.proofs.ReadAsLemmas.{read_as_itself, read_as_then}
+use Rattle.script_run.proofs.LookLemmas.{looked_broken, looked_more, looked_so, none_looked}
 use Rattle.script_run.proofs.RunLemmas.{lines-le, none_yet, one_more, breaks_off, stops}
 use Rattle.script_run.proofs.running.run_lines.Goals as goal
 
@@ -19,6 +20,7 @@ lines-init g c =
       record { agreed = λ sure. sure; failures = omega arith },
       refl,
       omega arith,
+      λ sure. none_looked (device_of g.A.Write.contents c.args.answers.now) _ _ (stays (g.A.Write.contents c.args.answers.now.inner)),
     )
 
 pub returns-in-Err-clause-lines : goal.returns-in-Err-clause-lines
@@ -42,6 +44,7 @@ lines-preserved-then-told g c = (
   record { agreed = λ sure. c.lines.invariant.4.agreed (c.in-Ok.ensures.reads.agreed sure); failures = omega (arith, c.lines.invariant.4.failures, c.in-Ok.ensures.reads.failures) },
   c.in-Ok.ensures.loaded ∙ c.lines.invariant.5,
   omega (arith, c.in-Ok.ensures.never_falls, c.lines.invariant.6),
+  λ sure. looked_more _ _ _ _ _ _ _ _ _ _ _ _ (rw c.in-Some.ensures.some at c.lines.invariant.7 (c.in-Ok.ensures.reads.agreed sure)) (c.in-Ok.ensures.line sure).1 (c.in-Ok.ensures.looks sure) _ (c.in-Ok.ensures.line sure).2.0,
 )
   where
     goes_on : (b : Bool) → IsTrue b → b ≡ false → ⊥
@@ -58,4 +61,16 @@ lines-preserved g c = (
   record { agreed = λ sure. c.lines.invariant.4.agreed (c.in-Ok.ensures.reads.agreed sure); failures = omega (arith, c.lines.invariant.4.failures, c.in-Ok.ensures.reads.failures) },
   c.in-Ok.ensures.loaded ∙ c.lines.invariant.5,
   omega (arith, c.in-Ok.ensures.never_falls, c.lines.invariant.6),
+  λ sure. looked_more _ _ _ _ _ _ _ _ _ _ _ _ (rw c.in-Some.ensures.some at c.lines.invariant.7 (c.in-Ok.ensures.reads.agreed sure)) (c.in-Ok.ensures.line sure).1 (c.in-Ok.ensures.looks sure) _ (c.in-Ok.ensures.line sure).2.0,
 )
+
+pub returns-in-Err-clause-looks : goal.returns-in-Err-clause-looks
+returns-in-Err-clause-looks g c = λ sure.
+    looked_broken _ _ _ _ _ _ _ _ _ _ _ _ (rw c.in-Some.ensures.some at c.lines.invariant.7 (c.in-Err.ensures.reads.agreed sure)) (c.in-Err.ensures.line sure).1 (c.in-Err.ensures.looks sure) _ (c.in-Err.ensures.line sure).2.0 (c.in-Err.ensures.line sure).2.2
+
+pub returns-then-stop-clause-looks : goal.returns-then-stop-clause-looks
+returns-then-stop-clause-looks g c = λ sure.
+    looked_so _ _ _ _ _ _ (looked_more _ _ _ _ _ _ _ _ _ _ _ _ (rw c.in-Some.ensures.some at c.lines.invariant.7 (c.in-Ok.ensures.reads.agreed sure)) (c.in-Ok.ensures.line sure).1 (c.in-Ok.ensures.looks sure) _ (c.in-Ok.ensures.line sure).2.0)
+
+pub returns-clause-looks : goal.returns-clause-looks
+returns-clause-looks g c = λ sure. looked_so _ _ _ _ _ _ (c.lines.invariant.7 sure)

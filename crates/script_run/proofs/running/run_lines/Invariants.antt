@@ -4,6 +4,8 @@ use Rattle.live_volume.specs.Held.{IsReadAs}
 use Rattle.line_texts.specs.Devices.{device_of}
 use Rattle.script_words.specs.Words.{script_lines}
 use Rattle.script_run.specs.Causes.{failures}
+use Rattle.script_run.specs.LineLooks.{after_looks}
+use Rattle.script_run.proofs.LookLemmas.{LookedSoFar}
 use Rattle.script_run.proofs.RunLemmas.{SoFar}
 use Rattle.script_run.proofs.running.run_lines.Given as goal
 
@@ -17,6 +19,7 @@ invariant-lines g l =
     × Follow l.initial.bench.reads l.bench.reads
     × (l.bench.loaded ≡ l.initial.bench.loaded)
     × (l.initial.room ≤ l.room)
+    × (HaveAgreed l.bench.reads → LookedSoFar (device_of g.A.Write.contents l.initial.answers) (device_of g.A.Write.contents l.answers) (after_looks l.initial.bench.state l.initial.bench.looks) (script_lines l.script) l.lines (after_looks l.bench.state l.bench.looks))
 
 abbrev pub decreases-lines : goal.decreases-lines
 decreases-lines g l = length l.lines

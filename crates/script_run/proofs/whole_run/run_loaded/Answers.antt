@@ -1,4 +1,4 @@
-use Rattle.std.proofs.Common.{refl, inr, arith, ap, Err}
+use Rattle.std.proofs.Common.{refl, inl, inr, arith, ap, Err}
 use Rattle.script_run.specs.declared.lines_end.LinesEnd.TheVariants.{Whole, Stopped, Answers}
 use Rattle.script_run.proofs.EndLemmas.{script_end, runs_through, stops, loses_answer}
 use Rattle.script_run.proofs.CauseLemmas.{refused_within, run_within, runs_in, reads_spanned, saves_part_in}
@@ -46,3 +46,25 @@ returns-clause-run g c = λ before after first last spans loaded sure. (
       c.in-Whole.refused (runs_in _ _ (run_within c.args.bench.now.state.on_disk first last c.args.room.now _ c.run_lines.new.room c.run_lines.new.room c.args.bench.now.reads.failures c.run_lines.new.bench.reads.failures c.run_lines.new.bench.reads.failures spans c.in-Ok.ensures.memory.never_falls (omega arith) (omega arith)) _ _ _ _ _ _ (Whole c.in-Whole.refused) (rw c.as_slice.ensures.value at (c.in-Whole.ensures.lines sure))),
   rw c.if-options.false refl,
 )
+
+pub returns-in-Err-clause-looks : goal.returns-in-Err-clause-looks
+returns-in-Err-clause-looks g c = λ sure. inr (c.in-Err.fault, c.in-Err.ensures.err, refl)
+
+pub returns-in-Stopped-clause-looks : goal.returns-in-Stopped-clause-looks
+returns-in-Stopped-clause-looks g c = λ sure. inl (c.in-Ok.lines.items, c.in-Ok.ensures.ok, rw c.as_slice.ensures.value at (c.in-Stopped.ensures.looks sure))
+
+pub returns-in-Answers-clause-looks : goal.returns-in-Answers-clause-looks
+returns-in-Answers-clause-looks g c = λ sure. inl (c.in-Ok.lines.items, c.in-Ok.ensures.ok, rw c.as_slice.ensures.value at (c.in-Answers.ensures.looks sure))
+
+pub returns-in-Ok-save-clause-looks : goal.returns-in-Ok-save-clause-looks
+returns-in-Ok-save-clause-looks g c = λ sure.
+    let run = rw c.as_slice.ensures.value at (c.in-Whole.ensures.looks (c.in-Ok-save.ensures.reads.agreed sure)) in
+    rw (c.in-Ok-save.ensures.state, c.in-Ok-save.ensures.looks) (inl (c.in-Ok.lines.items, c.in-Ok.ensures.ok, run))
+
+pub returns-in-Whole-clause-looks : goal.returns-in-Whole-clause-looks
+returns-in-Whole-clause-looks g c = λ sure.
+    let run = rw c.as_slice.ensures.value at (c.in-Whole.ensures.looks (c.in-Err-save.ensures.reads.agreed sure)) in
+    rw (c.in-Err-save.ensures.state, c.in-Err-save.ensures.looks) (inl (c.in-Ok.lines.items, c.in-Ok.ensures.ok, run))
+
+pub returns-clause-looks : goal.returns-clause-looks
+returns-clause-looks g c = λ sure. inl (c.in-Ok.lines.items, c.in-Ok.ensures.ok, rw c.as_slice.ensures.value at (c.in-Whole.ensures.looks sure))

@@ -1,4 +1,4 @@
-use Rattle.std.proofs.Common.{◌-◌, ◌≤◌, length}
+use Rattle.std.proofs.Common.{◌≡◌, ◌-◌, ◌≤◌, length}
 use Rattle.base_file.specs.HeldBytes.{HasGrown}
 use Rattle.trace_store.specs.Windows.{IsNextOf}
 use Rattle.volume_loading.proofs.pass_reads.read_head.Given as goal
@@ -8,6 +8,7 @@ invariant-turns l = record {
   grown : HasGrown l.fn.held l.held;
   next : IsNextOf l.held.bytes 0 l.window.bytes;
   within : length l.held.bytes ≤ l.size;
+  unfailed : l.held.failures ≡ l.fn.held.failures;
   memory : l.initial.room ≤ l.room;
 }
 

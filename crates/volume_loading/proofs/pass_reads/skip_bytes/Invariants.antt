@@ -1,4 +1,4 @@
-use Rattle.std.proofs.Common.{◌+◌, ◌-◌, ◌≤◌, ℕ, length}
+use Rattle.std.proofs.Common.{◌≡◌, ◌+◌, ◌-◌, ◌≤◌, ℕ, length}
 use Rattle.trace_store.specs.Grown.{HasMore}
 use Rattle.trace_store.specs.Windows.{block_of, IsNextOf}
 use Rattle.volume_loading.proofs.pass_reads.skip_bytes.Given as goal
@@ -10,6 +10,7 @@ invariant-blocks-2 g l = record {
   block : block_of l.fn.window ≤ block_of l.window;
   within : length l.store.loaded.bytes ≤ l.size;
   left : l.left ≤ l.n;
+  unfailed : l.store.loaded.failures ≡ l.fn.store.loaded.failures;
   memory : l.initial.room ≤ l.room;
 }
 

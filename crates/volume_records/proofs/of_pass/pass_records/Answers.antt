@@ -31,5 +31,6 @@ turns-preserved c =
         size = ap (λ (p : PassedFile PackedRecord). p.size) put ∙ ap (λ (p : PassedFile PackedRecord). p.size) is ∙ i.same.size;
       };
       looks = (omega (arith, looks.0, kept), omega (arith, looks.1, kept, count));
+      unfailed = ap (λ (p : PassedFile PackedRecord). p.failures) put ∙ c.in-Ok-true.ensures.unfailed ∙ i.unfailed;
       memory = grind arith;
     }

@@ -1,4 +1,4 @@
-use Rattle.std.proofs.Common.{◌≤◌, ◌-◌, length}
+use Rattle.std.proofs.Common.{◌≡◌, ◌≤◌, ◌-◌, length}
 use Rattle.edit_overlay.specs.CountedVolume.{RisesAtMost}
 use Rattle.volume_loading.specs.PassedFile.{HasReadOn}
 use Rattle.volume_records.specs.OfPass.{HasRecords, IsSameFile}
@@ -11,6 +11,7 @@ invariant-turns l = record {
   on : HasReadOn l.fn.passing.read l.passing.read;
   same : IsSameFile l.fn.passing l.passing;
   looks : RisesAtMost l.fn.passing.looks l.passing.looks (length l.passing.traces);
+  unfailed : l.passing.failures ≡ l.fn.passing.failures;
   memory : l.initial.room ≤ l.room;
 }
 

@@ -1,9 +1,11 @@
 use Rattle.std.proofs.Common.{◌≡◌, ◌∙◌, IsTrue, refl, ap, arith, length}
 use Rattle.std.proofs.lemmas.Result.{err_from_is_err_and}
 use Rattle.frame_cut.specs.Traces.{is_trace}
+use Rattle.trace_store.specs.Fetched.{HasChanged}
+use Rattle.trace_store.specs.Reread.{IsReread}
 use Rattle.trace_store.specs.Stores.{traces_of}
 use Rattle.edit_overlay.specs.CountedVolume.{CountedVolume, after_look}
-use Rattle.edit_overlay.specs.Held.{looked_of, IsReread}
+use Rattle.edit_overlay.specs.Held.{looked_of}
 use Rattle.edit_overlay.proofs.HeldLemmas.{held_reread}
 use Rattle.edit_overlay.proofs.LookLemmas.{failed_on_disk, has_missed, has_shape, has_shown, head_looked, traces_looked}
 use Rattle.edit_overlay.proofs.StandingLemmas.{trace_there}
@@ -14,26 +16,22 @@ fetch-requires-clause-last g c =
     omega (arith, c.if-p-count.false, c.count.ensures, ap (λ (o : CountedVolume g.row.T.Denot). length o.volume.traces) (c.self.view_is ∙ c.count_look.ensures))
 
 pub invariant_of-self : goal.invariant_of-self
-invariant_of-self g c =
-    let f = c.fetch.ensures in
-    held_reread c.self.inside c.fetch.new.self (record { head = f.head; order = f.order; slots = f.slots; loaded = f.loaded }) c.self.invariant
+invariant_of-self g c = held_reread c.self.inside c.fetch.new.self c.fetch.ensures.reread c.self.invariant
 
 pub invariant_of-self-2 : goal.invariant_of-self-2
-invariant_of-self-2 g c =
-    let f = c.fetch.ensures in
-    held_reread c.self.inside c.fetch.new.self (record { head = f.head; order = f.order; slots = f.slots; loaded = f.loaded }) c.self.invariant
+invariant_of-self-2 g c = held_reread c.self.inside c.fetch.new.self c.fetch.ensures.reread c.self.invariant
 
 pub returns-in_err-fetch : goal.returns-in_err-fetch
 returns-in_err-fetch g c =
     let o = c.args.self.now in
     let f = c.fetch.ensures in
-    let reread : IsReread c.self.inside.laid.store c.fetch.new.self = record { head = f.head; order = f.order; slots = f.slots; loaded = f.loaded } in
+    let reread : IsReread c.self.inside.laid.store c.fetch.new.self = f.reread in
     let counted : looked_of c.self.inside ≡ after_look o o.reads = c.self.view_is ∙ c.count_look.ensures in
     let there : IsTrue (is_trace o.volume c.args.p) = trace_there o.volume c.args.p (omega arith) (omega (arith, c.if-p-count.false, c.count.ensures)) in
     let p = err_from_is_err_and c.from_residual.result c.from_residual.ensures.1 in
     let failed : IsTrue o.loaded.on_disk = failed_on_disk o c.self.inside (record c.self.inside.laid { store = c.fetch.new.self }) reread refl counted c.fetch.result c.in_err-fetch.field-0.0 c.in_err-fetch.was f.memory in
     rw (rw p.2 at p.1) (
-      (refl, λ _. tt, has_missed o c.self.inside (record c.self.inside.laid { store = c.fetch.new.self }) reread refl counted c.in_err-fetch.field-0.0 c.self.invariant.lends c.in_err-fetch.ensures.fault),
+      (refl, λ _. tt, has_missed o c.self.inside (record c.self.inside.laid { store = c.fetch.new.self }) reread refl counted c.in_err-fetch.field-0.0 c.self.invariant.lends (λ (changed : HasChanged c.fetch.new.self c.args.p). changed.unsure) c.in_err-fetch.ensures.fault),
       record { ends = tt; there = tt; shape = tt; read = (there, failed) },
     )
 
@@ -43,7 +41,7 @@ returns g c =
     let f = c.fetch.ensures in
     let t = c.fetch.new.self in
     let view = c.shown.result in
-    let reread : IsReread c.self.inside.laid.store t = record { head = f.head; order = f.order; slots = f.slots; loaded = f.loaded } in
+    let reread : IsReread c.self.inside.laid.store t = f.reread in
     let counted : looked_of c.self.inside ≡ after_look o o.reads = c.self.view_is ∙ c.count_look.ensures in
     let there : IsTrue (is_trace o.volume c.args.p) = trace_there o.volume c.args.p (omega arith) (omega (arith, c.if-p-count.false, c.count.ensures)) in
     let head = head_looked o c.self.inside (record c.self.inside.laid { store = t }) reread refl counted in

@@ -5,7 +5,7 @@ use Rattle.trace_store.specs.Ahead.{traces_ahead}
 use Rattle.edit_overlay.specs.CountedVolume.{CountedVolume, after_look}
 use Rattle.edit_overlay.specs.Held.{looked_of}
 use Rattle.edit_overlay.proofs.HeldLemmas.{held_relaid, same_reread}
-use Rattle.edit_overlay.proofs.LookLemmas.{failed_on_disk, has_missed, has_shape, has_shown, head_ahead, traces_looked_ahead}
+use Rattle.edit_overlay.proofs.LookLemmas.{failed_on_disk, has_missed, has_shape, has_shown, head_ahead, traces_looked_ahead, unsure_ahead}
 use Rattle.edit_overlay.proofs.StandingLemmas.{trace_there}
 use Rattle.edit_overlay.proofs.overlay.Overlay.look_prepared.Goals as goal
 
@@ -40,7 +40,7 @@ returns-in_err-fetch g c =
     let p = err_from_is_err_and c.from_residual.result c.from_residual.ensures.1 in
     let failed : IsTrue o.loaded.on_disk = failed_on_disk o c.self.inside l reread kept counted c.fetch.result c.in_err-fetch.field-0.0 c.in_err-fetch.was c.fetch.ensures.memory in
     rw (rw p.2 at p.1) (
-      (refl, λ _. tt, has_missed o c.self.inside l reread kept counted c.in_err-fetch.field-0.0 c.self.invariant.lends c.in_err-fetch.ensures.fault),
+      (refl, λ _. tt, has_missed o c.self.inside l reread kept counted c.in_err-fetch.field-0.0 c.self.invariant.lends (unsure_ahead l.store c.args.p l.prepared) c.in_err-fetch.ensures.fault),
       record { ends = tt; there = tt; shape = tt; read = (there, failed) },
     )
 

@@ -9,5 +9,5 @@ of-requires c = let few = c.requires.records in omega (arith, length-map c.args.
 
 pub returns-clause-same : goal.returns-clause-same
 returns-clause-same c =
-    Same-loaded_ranges _ c.args.records.now c.len.ensures c.in_ok-inlines.ensures.inlines c.in_ok-inlines.ensures.crosslines c.in_ok-inlines.ensures.offsets
+    Same-loaded_ranges _ c.args.records.now c.len-2.ensures c.in_ok-inlines.ensures.inlines c.in_ok-inlines.ensures.crosslines c.in_ok-inlines.ensures.offsets
     (rw c.in_ok-x.ensures.x at c.in_ok-coordinates_x.ensures.numbers) (rw c.in_ok-x.ensures.y at c.in_ok-coordinates_y.ensures.numbers)

@@ -1,13 +1,11 @@
-use Rattle.std.proofs.Common.{refl}
-use Rattle.base_file.proofs.HeldLemmas.{IsStill-refl}
 use Rattle.trace_store.specs.Then.{place_then, runs_then}
-use Rattle.trace_store.proofs.FallLemmas.{ready_falls}
+use Rattle.trace_store.proofs.FallLemmas.{ready_falls, IsReread-refl}
 use Rattle.trace_store.proofs.FetchLemmas.{fetched_in_memory, place-there, then-may}
 use Rattle.trace_store.proofs.store.TraceStore.fetch_then.Goals as goal
 
 pub returns-then-is_in_memory-clause-ready : goal.returns-then-is_in_memory-clause-ready
 returns-then-is_in_memory-clause-ready g c =
-    ready_falls c.args.self.now _ c.args.prepared.now refl refl refl (IsStill-refl c.args.self.now.loaded) c.requires.ready
+    ready_falls c.args.self.now _ c.args.prepared.now (IsReread-refl c.args.self.now) c.requires.ready
 
 pub returns-then-is_in_memory-clause-fetched : goal.returns-then-is_in_memory-clause-fetched
 returns-then-is_in_memory-clause-fetched g c =
@@ -24,5 +22,4 @@ fetch_with-requires-clause-laid g c =
 
 pub returns-clause-ready : goal.returns-clause-ready
 returns-clause-ready g c =
-    let given = c.fetch_with.ensures in
-    ready_falls c.args.self.now c.fetch_with.new.self c.args.prepared.now given.head given.order given.slots given.loaded c.requires.ready
+    ready_falls c.args.self.now c.fetch_with.new.self c.args.prepared.now c.fetch_with.ensures.reread c.requires.ready

@@ -9,6 +9,7 @@ invariant-turns l = record {
   next : (at : ℕ) → IsNextOf l.fn.held.bytes at l.fn.self.bytes → IsNextOf l.held.bytes at l.self.bytes;
   within : length l.held.bytes ≤ l.size;
   room : length l.self.bytes + l.self.room ≡ length l.fn.self.bytes + l.fn.self.room;
+  unfailed : l.held.failures ≡ l.fn.held.failures;
   block : block_of l.self ≡ block_of l.fn.self;
   left : length l.self.bytes + (l.size - length l.held.bytes) ≡ length l.fn.self.bytes + (l.size - length l.fn.held.bytes);
 }

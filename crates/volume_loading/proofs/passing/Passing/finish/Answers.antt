@@ -5,9 +5,18 @@ use Rattle.frame_cut.specs.declared.file_head.Head.{Head}
 use Rattle.trace_store.specs.Stores.{traces_of}
 use Rattle.trace_store.specs.Windows.{block_of}
 use Rattle.edit_overlay.specs.Standings.{is_on_disk, is_sure}
-use Rattle.volume_loading.proofs.PassingLemmas.{cut_whole, each_fits, header_settled, headers_there, joined_whole, laid_whole, out_of_memory, settled_apart, settled_of, tail_whole}
+use Rattle.volume_loading.proofs.PassingLemmas.{cut_whole, each_fits, given_up, header_settled, headers_there, joined_whole, laid_whole, out_of_memory, settled_apart, settled_of, tail_whole}
 use Rattle.volume_loading.proofs.PassLemmas.{more_again}
 use Rattle.volume_loading.proofs.passing.Passing.finish.Goals as goal
+
+pub returns-in-Err-clause-refused : goal.returns-in-Err-clause-refused
+returns-in-Err-clause-refused g c =
+    let p = c.self.inside in
+    let held = c.skip_bytes.new.store.loaded in
+    let pass = c.skip_bytes.ensures.grown.loaded.standing ∙ c.self.invariant.standing in
+    let end : p.at + p.tail + 3200 * p.store.head.trailer ≡ p.size = rw (← c.self.view_is) at c.requires in
+    let fault = c.in-Err.ensures.fault p.at c.self.invariant.next (omega (arith, end)) in
+    rw (← c.self.view_is, c.of.ensures.read, c.of.ensures.failures, c.of.ensures.ended, c.of.ensures.fault) (given_up held p.size c.in-Err.fault pass fault)
 
 pub array_at-text-requires : goal.array_at-text-requires
 array_at-text-requires g c = (omega arith, omega (arith, headers_there c.self.inside c.self.invariant, ap length c.as_slice.ensures.value))
@@ -91,6 +100,11 @@ returns-clause-size g c =
     let bin = header_settled p c.settle-store.result c.array_at-bin.result.now c.as_slice-2.result.now 3200 400 c.self.invariant settled c.as_slice-2.ensures.value (omega arith) c.array_at-bin.ensures in
     let joined = joined_whole p c.settle-store.result c.self.invariant settled end c.array_at-text.result.now c.array_at-bin.result.now text bin in
     rw (← c.self.view_is, c.new.ensures) (ap length joined ∙ settled.all)
+
+pub returns-clause-unfailed : goal.returns-clause-unfailed
+returns-clause-unfailed g c =
+    let settled = c.settle-store.ensures.failures in
+    rw (← c.self.view_is, c.new.ensures) (settled ∙ c.in-Ok-last_bytes.ensures.unfailed ∙ c.in-Ok.ensures.unfailed)
 
 pub returns-clause-passed : goal.returns-clause-passed
 returns-clause-passed g c =

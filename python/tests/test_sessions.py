@@ -336,3 +336,19 @@ def test_a_session_alone(example):
     assert session.exchange(b"# nothing\ncount\n\n", 3) == [b"", b"traces 3", b""]
     assert session.exchange(b"", 0) == []
     assert session.finish()[:2] == (0, b"")
+
+
+@pytest.mark.parametrize(("given", "expected"), [(None, "glibc.malloc.hugetlb=1"), ("glibc.malloc.check=0", "glibc.malloc.check=0")])
+def test_the_program_is_to_take_large_pages_unless_tunables_are_set(example, monkeypatch, given, expected):
+    if given is None:
+        monkeypatch.delenv("GLIBC_TUNABLES", raising=False)
+    else:
+        monkeypatch.setenv("GLIBC_TUNABLES", given)
+    monkeypatch.setenv("SEGYWB_TEST", "kept")
+    session = Session(example("survey"))
+    with open(f"/proc/{session.pid}/environ", "rb") as file:
+        names = dict(pair.split(b"=", 1) for pair in file.read().split(b"\0") if pair)
+    assert names[b"GLIBC_TUNABLES"] == expected.encode()
+    assert names[b"SEGYWB_TEST"] == b"kept"
+    assert session.exchange(b"count\n", 1)
+    session.finish()

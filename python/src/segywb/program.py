@@ -49,6 +49,11 @@ def knows(option: str) -> bool:
         return False
 
 
+def environment() -> Dict[str, str]:
+    """The environment of a session's program. glibc is asked to take memory in large pages, by which a load is faster; ``GLIBC_TUNABLES`` that is set already stands."""
+    return {"GLIBC_TUNABLES": "glibc.malloc.hugetlb=1", **os.environ}
+
+
 def run(words: Sequence[str]) -> Tuple[int, str, str]:
     """A run to its end, also where this process is interrupted: its status, its answers and what it told."""
     found = find()

@@ -19,7 +19,7 @@ wrong 'lines of more than 100 columns' "$(LC_ALL=C.UTF-8 grep -nHE '^.{101,}' "$
 # The crates that have more, with what they have and why. They are to shrink: who makes one shorter writes the new numbers here, and
 # takes its line away where it is within the limits; who cannot but make one longer writes that here too, to be seen.
 larger='
-trace_store    94 1621 its edits are methods of one struct with one invariant, each with its contract
+trace_store    94 1622 its edits are methods of one struct with one invariant, each with its contract
 bench_rules    90 1768 the words of edits, queries, conditions and answers, with their small functions, are one vocabulary of one definition
 live_volume    97 2559 its edits and queries are methods of one struct with one invariant
 script_words  140 1990 each word of a script is read by a function of its own

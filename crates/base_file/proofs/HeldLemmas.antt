@@ -59,7 +59,7 @@ not_in_memory (OnDisk agreed) disk inside = inside
 -- ---- what is held
 
 pub IsStill-refl : (h : HeldBytes) → IsStill h h
-IsStill-refl h = record { bytes = refl; standing = Falls-refl h.standing; most = refl; front = refl; back = refl; failures = omega arith; ended = refl }
+IsStill-refl h = record { bytes = refl; standing = Falls-refl h.standing; most = refl; front = refl; back = refl; failures = omega arith; empty_reads = refl }
 
 pub IsStill-trans : (a b c : HeldBytes) → IsStill a b → IsStill b c → IsStill a c
 IsStill-trans a b c first second = record {
@@ -69,7 +69,7 @@ IsStill-trans a b c first second = record {
   front = second.front ∙ first.front;
   back = second.back ∙ first.back;
   failures = omega (arith, first.failures, second.failures);
-  ended = second.ended ∙ first.ended;
+  empty_reads = second.empty_reads ∙ first.empty_reads;
 }
 
 there_by : (standing : Standing) (bytes room : List ℕ) (from at n : ℕ) → IsInMemory standing → at + n ≤ length bytes → are_there standing bytes room from at n

@@ -12,6 +12,6 @@ IsFaultOfRead most n before now Changed = ⊥
 
 -- a pass was to read some of the next n bytes, and has read none, where so many reads had failed and so many had given nothing:
 -- this one failed; or it gave nothing, where n is not 0, and is told as one that failed
-abbrev pub IsFaultOfPassRead : (n failures ended failures_now ended_now : ℕ) → ReadFault → Type 0
-IsFaultOfPassRead n failures ended failures_now ended_now fault =
-    ((failures_now ≡ failures + 1) × (ended_now ≡ ended)) ⊎ ((fault ≡ ReadFailed) × (0 < n) × (failures_now ≡ failures) × (ended_now ≡ ended + 1))
+abbrev pub IsFaultOfPassRead : (n failures empty_reads failures_now empty_reads_now : ℕ) → ReadFault → Type 0
+IsFaultOfPassRead n failures empty_reads failures_now empty_reads_now fault =
+    ((failures_now ≡ failures + 1) × (empty_reads_now ≡ empty_reads)) ⊎ ((fault ≡ ReadFailed) × (0 < n) × (failures_now ≡ failures) × (empty_reads_now ≡ empty_reads + 1))

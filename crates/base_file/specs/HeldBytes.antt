@@ -59,7 +59,7 @@ pub record HeldBytes : Type 0 where
   pub front : ℕ
   pub back : ℕ
   pub failures : ℕ
-  pub ended : ℕ
+  pub empty_reads : ℕ
 
 -- the same bytes, with as much room, of which as many are kept, and which stand as they did or have fallen; no fewer reads
 -- failed, and the pass read no more
@@ -70,7 +70,7 @@ pub record IsStill (old new : HeldBytes) : Type 0 where
   pub front : new.front ≡ old.front
   pub back : new.back ≡ old.back
   pub failures : old.failures ≤ new.failures
-  pub ended : new.ended ≡ old.ended
+  pub empty_reads : new.empty_reads ≡ old.empty_reads
 
 -- more bytes behind those that were there, which stand as they did; no fewer reads failed, and no fewer gave nothing
 pub record HasGrown (old new : HeldBytes) : Type 0 where
@@ -82,7 +82,7 @@ pub record HasGrown (old new : HeldBytes) : Type 0 where
   pub front : new.front ≡ old.front
   pub back : new.back ≡ old.back
   pub failures : old.failures ≤ new.failures
-  pub ended : old.ended ≤ new.ended
+  pub empty_reads : old.empty_reads ≤ new.empty_reads
 
 -- what is lent: the bytes themselves, or what was read last
 abbrev pub lent_by : Standing → (bytes room : List ℕ) (from at n : ℕ) → List ℕ

@@ -1,6 +1,6 @@
 -- How a base is held.
 use Rattle.std.specs.Prelude.{ℕ, ◌≡◌, ◌-◌, ◌≤◌, List, [], length, take, drop}
-use Rattle.base_file.specs.Disks.{bytes_of, bytes_so_far, ended_of, ended_so_far, failures_of, failures_so_far, is_agreed}
+use Rattle.base_file.specs.Disks.{bytes_of, bytes_so_far, empty_reads_of, empty_reads_so_far, failures_of, failures_so_far, is_agreed}
 use Rattle.base_file.specs.HeldBytes.{Standing, InMemory, OnDisk, OnPass, HeldBytes}
 use Rattle.base_file.specs.Rooms.{read_last, IsOf}
 use Rattle.base_file.specs.declared.room.Room.{Room}
@@ -33,10 +33,10 @@ failures_in (Disk d) = failures_of d
 failures_in (Pass l) = failures_so_far l
 
 -- how many reads of the pass gave nothing where some were to come: in memory none
-abbrev pub ended_in : Source → ℕ
-ended_in (Memory m) = 0
-ended_in (Disk d) = ended_of d
-ended_in (Pass l) = ended_so_far l
+abbrev pub empty_reads_in : Source → ℕ
+empty_reads_in (Memory m) = 0
+empty_reads_in (Disk d) = empty_reads_of d
+empty_reads_in (Pass l) = empty_reads_so_far l
 
 -- what is held, as clauses see it
 abbrev pub held_of : Inside → HeldBytes
@@ -49,7 +49,7 @@ held_of h = record {
   front = kept_count h.source h.front.items;
   back = kept_count h.source h.back.items;
   failures = failures_in h.source;
-  ended = ended_in h.source;
+  empty_reads = empty_reads_in h.source;
 }
 
 -- these are the first of the bytes, and those the last

@@ -17,7 +17,7 @@ pub trait Base {
     ghost failures: { Self → ℕ };
 
     /// How many reads of the pass that loaded them gave nothing where some were to come.
-    ghost ended: { Self → ℕ };
+    ghost empty_reads: { Self → ℕ };
 
     /// How many there are.
     fn length(&self) -> u64
@@ -40,5 +40,5 @@ pub trait Base {
         // It is refused where it failed, and counted then.
         ensures failures { MatchResult result (λ _. failures self.new ≡ failures self.old)
             (λ fault. (fault ≡ ReadFailed) × (failures self.new ≡ failures self.old + 1)) }
-        ensures ended { ended self.new ≡ ended self.old };
+        ensures empty_reads { empty_reads self.new ≡ empty_reads self.old };
 }

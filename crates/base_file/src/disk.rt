@@ -21,7 +21,7 @@ pub struct Disk<F> {
 }
 
 impl<F> Disk<F> {
-    ghost use Rattle.base_file.specs.Disks.{bytes_of, ended_of, failures_of, is_agreed};
+    ghost use Rattle.base_file.specs.Disks.{bytes_of, empty_reads_of, failures_of, is_agreed};
 
     // A file of which a pass has read so many bytes, and which was not read since; with what its
     // reads gave.
@@ -31,7 +31,7 @@ impl<F> Disk<F> {
         ensures bytes { bytes_of result ≡ joined logs.first.events }
         ensures agreed { IsTrue (is_agreed result) }
         ensures failures { failures_of result ≡ length logs.failed.events }
-        ensures ended { ended_of result ≡ length logs.ended.events }
+        ensures empty_reads { empty_reads_of result ≡ length logs.empty_reads.events }
     {
         Disk {
             file,
@@ -47,7 +47,7 @@ impl<F> Disk<F> {
         F: Drop,
         ensures bytes { joined result.first.events ≡ bytes_of self }
         ensures failures { length result.failed.events ≡ failures_of self }
-        ensures ended { length result.ended.events ≡ ended_of self }
+        ensures empty_reads { length result.empty_reads.events ≡ empty_reads_of self }
     {
         self.logs
     }
@@ -60,7 +60,7 @@ impl<F: FileExt> Base for Disk<F> {
 
     ghost failures = { λ d. length d.logs.failed.events };
 
-    ghost ended = { λ d. length d.logs.ended.events };
+    ghost empty_reads = { λ d. length d.logs.empty_reads.events };
 
     fn length(&self) -> u64 {
         self.size

@@ -40,7 +40,7 @@ impl Model for Held {
 }
 
 impl Held {
-    ghost use Rattle.base_file.specs.Disks.{bytes_of, ended_of, failures_of, is_agreed};
+    ghost use Rattle.base_file.specs.Disks.{bytes_of, empty_reads_of, failures_of, is_agreed};
     ghost use Rattle.base_file.specs.Faults.{IsFaultOfPassRead, IsFaultOfRead};
     ghost use Rattle.base_file.specs.Seen.{joined};
     ghost use Rattle.base_file.specs.HeldBytes.{InMemory, OnDisk, OnPass, after_pass, HasGrown, IsInMemory, IsStill, IsSure, AreThere, lent_of};
@@ -52,7 +52,7 @@ impl Held {
         ensures front { result.front ≡ length bytes.items }
         ensures back { result.back ≡ length bytes.items }
         ensures failures { result.failures ≡ 0 }
-        ensures ended { result.ended ≡ 0 }
+        ensures empty_reads { result.empty_reads ≡ 0 }
     {
         Held {
             source: Source::Memory(Memory { bytes }),
@@ -75,7 +75,7 @@ impl Held {
         ensures front { result.front ≡ length front.items }
         ensures back { result.back ≡ length back.items }
         ensures failures { result.failures ≡ failures_of disk }
-        ensures ended { result.ended ≡ ended_of disk }
+        ensures empty_reads { result.empty_reads ≡ empty_reads_of disk }
     {
         Held {
             source: Source::Disk(disk),
@@ -91,7 +91,7 @@ impl Held {
         ensures bytes { result.bytes ≡ [] }
         ensures standing { result.standing ≡ OnPass }
         ensures failures { result.failures ≡ 0 }
-        ensures ended { result.ended ≡ 0 }
+        ensures empty_reads { result.empty_reads ≡ 0 }
     {
         Held {
             source: Source::Pass(Loading::new(file)),
@@ -113,9 +113,9 @@ impl Held {
         ensures bytes { IfOk result (λ n. self.new.bytes ≡ self.old.bytes ++ take n block.new) }
         ensures failed { OnErr result (self.new.bytes ≡ self.old.bytes) }
         ensures failures { OnOk result (self.new.failures ≡ self.old.failures) }
-        ensures ended { OnOk result (self.new.ended ≡ self.old.ended) }
+        ensures empty_reads { OnOk result (self.new.empty_reads ≡ self.old.empty_reads) }
         ensures fault { IfErr result (IsFaultOfPassRead (length block.new)
-            self.old.failures self.old.ended self.new.failures self.new.ended) }
+            self.old.failures self.old.empty_reads self.new.failures self.new.empty_reads) }
     {
         match &mut self.source {
             Source::Pass(loading) => loading.more(block),
@@ -125,7 +125,8 @@ impl Held {
 
     /// Whether a file that is being read has no more bytes; true where the bytes are in memory, or
     /// the pass has ended. Takes no memory. Refused where the file failed, and where there are more
-    /// than 2^62 bytes. A read that finds the end here is not counted: none was to come.
+    /// than 2^62 bytes. That the file is at its end is told of one that is being read only where a
+    /// read gave nothing, which is noted.
     pub fn is_at_end(&mut self) -> Result<bool, ReadFault>
         ensures grown { HasGrown self.old self.new }
         ensures end { IfOk result (λ end. IsTrue end → self.new.bytes ≡ self.old.bytes) }
@@ -133,14 +134,13 @@ impl Held {
             length self.old.bytes < length self.new.bytes) }
         ensures failures { MatchResult result (λ _. self.new.failures ≡ self.old.failures)
             (λ _. self.new.failures ≡ self.old.failures + 1) }
-        ensures ended { self.new.ended ≡ self.old.ended }
+        ensures noted { IfOk result (λ end. IsTrue end → self.old.standing ≡ OnPass →
+            self.new.empty_reads ≡ self.old.empty_reads + 1) }
+        ensures not_noted { IfOk result (λ end. IsFalse end →
+            self.new.empty_reads ≡ self.old.empty_reads) }
     {
-        let mut byte = [0];
         match &mut self.source {
-            Source::Pass(loading) => {
-                let count = loading.next(&mut byte)?;
-                Ok(count == 0)
-            }
+            Source::Pass(loading) => loading.is_at_end(),
             Source::Memory(_) | Source::Disk(_) => Ok(true),
         }
     }
@@ -158,7 +158,7 @@ impl Held {
         ensures front { ¬ IsInMemory self.standing → result.front ≡ length front.items }
         ensures back { ¬ IsInMemory self.standing → result.back ≡ length back.items }
         ensures failures { result.failures ≡ self.failures }
-        ensures ended { result.ended ≡ self.ended }
+        ensures empty_reads { result.empty_reads ≡ self.empty_reads }
     {
         let Held {
             source,
@@ -184,7 +184,7 @@ impl Held {
         requires { ¬ IsInMemory self.standing }
         ensures bytes { joined result.first.events ≡ self.bytes }
         ensures failures { length result.failed.events ≡ self.failures }
-        ensures ended { length result.ended.events ≡ self.ended }
+        ensures empty_reads { length result.empty_reads.events ≡ self.empty_reads }
     {
         let Held {
             source,

@@ -8,7 +8,8 @@
 //! is open. How many reads of a file failed is counted, for clauses alone (`failures`): only those
 //! that the file was asked for count. A read is refused where one failed, or where more is asked
 //! for than there is room for, which counts as none. A read of the pass that gave nothing, where
-//! some bytes were to come, has not failed, and is counted apart (`ended`): the file ends there.
+//! some bytes were to come, has not failed, and is counted apart (`empty_reads`): the file ends
+//! there.
 //!
 //! `Held` is the one of the two that a volume stands on, with room for what is lent; its `Standing`
 //! says which. What is to be seen is read first (`fetch`), and lent then (`lent`); what was read

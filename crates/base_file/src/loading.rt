@@ -1,5 +1,5 @@
 // The one pass that loads a file which stays on disk.
-ghost use Rattle.std.specs.Prelude.{◌≡◌, ◌≤◌, ◌<◌, ◌^◌, [], length, IfErr, IfOk, MatchResult, OnErr, IsTrue};
+ghost use Rattle.std.specs.Prelude.{◌≡◌, ◌≤◌, ◌<◌, ◌^◌, [], length, IfErr, IfOk, MatchResult, OnErr, OnOk, IsFalse, IsTrue};
 ghost use Rattle.base_file.specs.Faults.{IsFaultOfPassRead};
 ghost use Rattle.base_file.specs.Seen.{joined};
 
@@ -22,13 +22,13 @@ pub struct Loading<F> {
 }
 
 impl<F: FileExt> Loading<F> {
-    ghost use Rattle.base_file.specs.Disks.{bytes_so_far, bytes_of, ended_of, ended_so_far, failures_of, failures_so_far, is_agreed, HasFailed, HasRead, HasStayed};
+    ghost use Rattle.base_file.specs.Disks.{bytes_so_far, bytes_of, empty_reads_of, empty_reads_so_far, failures_of, failures_so_far, is_agreed, HasFailed, HasFoundMore, HasFoundNone, HasRead, HasStayed};
 
     /// At the front of the file. Takes no memory.
     pub fn new(file: F) -> Loading<F>
         ensures bytes { bytes_so_far result ≡ [] }
         ensures failures { failures_so_far result ≡ 0 }
-        ensures ended { ended_so_far result ≡ 0 }
+        ensures empty_reads { empty_reads_so_far result ≡ 0 }
     {
         Loading {
             file,
@@ -38,8 +38,9 @@ impl<F: FileExt> Loading<F> {
     }
 
     /// The next bytes, into the front of the block: how many, and 0 at the end or where the block
-    /// is empty. Takes no memory. Refused where the file failed, and where there are more than 2^62
-    /// bytes; the pass then stands where it stood, with one failed read more.
+    /// is empty. That a read gave nothing where some were to come is noted apart. Takes no memory.
+    /// Refused where the file failed, and where there are more than 2^62 bytes; the pass then
+    /// stands where it stood, with one failed read more.
     pub fn next(&mut self, block: &mut [u8]) -> Result<usize, ReadFault>
         ensures { MatchResult result (HasRead self.old self.new block.new)
             (λ _. HasFailed self.old self.new) }
@@ -50,28 +51,42 @@ impl<F: FileExt> Loading<F> {
         if count as u64 > MOST - self.size {
             return Err(self.note_failure(ReadFault::TooLarge));
         }
+        if count == 0 && !block.is_empty() {
+            self.logs.empty_reads.note(&[self.size], &[]);
+        }
         self.logs.first.note(&[self.size], &block[..count]);
         self.size += count as u64;
         Ok(count)
     }
 
     /// The next bytes, of which there are to be some: how many, and 0 only where the block is
-    /// empty. Refused as `next`, and at the end, where no read has failed: that it gave nothing is
-    /// noted apart. Takes no memory.
+    /// empty. Refused as `next`, and at the end, where no read has failed. Takes no memory.
     pub fn more(&mut self, block: &mut [u8]) -> Result<usize, ReadFault>
         ensures read { IfOk result (HasRead self.old self.new block.new) }
         ensures some { IfOk result (λ n. 0 < length block.new → 0 < n) }
+        ensures empty_reads { OnOk result
+            (empty_reads_so_far self.new ≡ empty_reads_so_far self.old) }
         ensures stayed { OnErr result (HasStayed self.old self.new) }
         ensures fault { IfErr result (IsFaultOfPassRead (length block.new)
-            (failures_so_far self.old) (ended_so_far self.old)
-            (failures_so_far self.new) (ended_so_far self.new)) }
+            (failures_so_far self.old) (empty_reads_so_far self.old)
+            (failures_so_far self.new) (empty_reads_so_far self.new)) }
     {
         let count = self.next(block)?;
         if count == 0 && !block.is_empty() {
-            self.logs.ended.note(&[self.size], &[]);
             return Err(ReadFault::ReadFailed);
         }
         Ok(count)
+    }
+
+    /// Whether the file has no more bytes: one is asked for. Takes no memory. Refused as `next`.
+    pub fn is_at_end(&mut self) -> Result<bool, ReadFault>
+        ensures end { IfOk result (λ end. IsTrue end → HasFoundNone self.old self.new) }
+        ensures more { IfOk result (λ end. IsFalse end → HasFoundMore self.old self.new) }
+        ensures failed { OnErr result (HasFailed self.old self.new) }
+    {
+        let mut byte = [0];
+        let count = self.next(&mut byte)?;
+        Ok(count == 0)
     }
 
     // A read of the file failed, or gave more bytes than can be counted: it counts as one that
@@ -97,7 +112,7 @@ impl<F: FileExt> Loading<F> {
         F: Drop,
         ensures bytes { joined result.first.events ≡ bytes_so_far self }
         ensures failures { length result.failed.events ≡ failures_so_far self }
-        ensures ended { length result.ended.events ≡ ended_so_far self }
+        ensures empty_reads { length result.empty_reads.events ≡ empty_reads_so_far self }
     {
         self.logs
     }
@@ -107,7 +122,7 @@ impl<F: FileExt> Loading<F> {
         ensures bytes { bytes_of result ≡ bytes_so_far self }
         ensures agreed { IsTrue (is_agreed result) }
         ensures failures { failures_of result ≡ failures_so_far self }
-        ensures ended { ended_of result ≡ ended_so_far self }
+        ensures empty_reads { empty_reads_of result ≡ empty_reads_so_far self }
     {
         let Loading { file, size, logs } = self;
         Disk::new(file, size, logs)

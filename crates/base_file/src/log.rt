@@ -6,8 +6,9 @@ ghost use Rattle.base_file.specs.Seen.{Seen, seen_of};
 use std::marker::{Model, PhantomData};
 
 /// What reads gave, the last one first: only clauses see it, and it takes no memory. Only the reads
-/// of `Loading` and `Disk` note, each what it gave, and where, those that failed or gave nothing in
-/// lists of their own: the file was asked each time. Their two calls here, which do nothing, are
+/// of `Loading` and `Disk` note, each what it gave, and where, those that failed, and those that
+/// gave nothing where some were to come, in lists of their own too: the file was asked each time.
+/// The two calls here, which do nothing, are
 /// proved by hand.
 #[derive(Drop)]
 pub struct Log {
@@ -41,7 +42,7 @@ impl Log {
 pub struct Logs {
     pub first: Log,
     pub failed: Log,
-    pub ended: Log,
+    pub empty_reads: Log,
 }
 
 impl Logs {
@@ -49,12 +50,12 @@ impl Logs {
     pub fn new() -> Logs
         ensures first { result.first.events ≡ [] }
         ensures failed { result.failed.events ≡ [] }
-        ensures ended { result.ended.events ≡ [] }
+        ensures empty_reads { result.empty_reads.events ≡ [] }
     {
         Logs {
             first: Log::new(),
             failed: Log::new(),
-            ended: Log::new(),
+            empty_reads: Log::new(),
         }
     }
 }

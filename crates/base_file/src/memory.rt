@@ -18,7 +18,7 @@ impl Base for Memory {
 
     ghost failures = { λ _. 0 };
 
-    ghost ended = { λ _. 0 };
+    ghost empty_reads = { λ _. 0 };
 
     fn length(&self) -> u64 {
         self.bytes.len() as u64

@@ -53,7 +53,7 @@ impl Room {
         ensures of { IsOf (B.bytes base.new) (B.agreed base.new) self.new }
         ensures most { length self.new.block.items ≡ length self.old.block.items }
         ensures failures { B.failures base.old ≤ B.failures base.new }
-        ensures ended { B.ended base.new ≡ B.ended base.old }
+        ensures empty_reads { B.empty_reads base.new ≡ B.empty_reads base.old }
         ensures fault { IfErr result (λ fault.
             ((fault ≡ ReadFailed) × (B.failures base.old < B.failures base.new)) ⊎
             ((fault ≡ TooLarge) × (length self.old.block.items < n))) }
@@ -121,7 +121,7 @@ impl Room {
         ensures none { OnErr result (self.new.filled ≡ 0) }
         ensures failures { MatchResult result (λ _. B.failures base.new ≡ B.failures base.old)
             (λ fault. (fault ≡ ReadFailed) × (B.failures base.new ≡ B.failures base.old + 1)) }
-        ensures ended { B.ended base.new ≡ B.ended base.old }
+        ensures empty_reads { B.empty_reads base.new ≡ B.empty_reads base.old }
     {
         // A read that fails may have written into the block.
         self.clear(at);
@@ -141,7 +141,7 @@ fn read_front<B: Base>(base: &mut B, at: u64, n: usize, block: &mut [u8]) -> Res
         take n block.new ≡ take n (drop at (B.bytes base.old))) }
     ensures failures { MatchResult result (λ _. B.failures base.new ≡ B.failures base.old)
         (λ fault. (fault ≡ ReadFailed) × (B.failures base.new ≡ B.failures base.old + 1)) }
-    ensures ended { B.ended base.new ≡ B.ended base.old }
+    ensures empty_reads { B.empty_reads base.new ≡ B.empty_reads base.old }
 {
     base.read(at, &mut block[..n])?;
     Ok(())

@@ -125,7 +125,7 @@ impl Bench {
         ensures unfailed { IfOk result (λ b. b.reads.failures ≡ 0) }
         ensures refused { IfErr result
             (λ refused. IsPassFault size reading limits refused.read refused.failures
-            refused.ended refused.fault) }
+            refused.empty_reads refused.fault) }
         ensures memory { Rises (IsErrAnd result (λ e. e.fault ≡
             LoadFault.OutOfMemory)) room.old room.new }
     {

@@ -70,7 +70,7 @@ abbrev pub IsFetchedAhead : {T : Type 0} → TraceStore T → ℕ → Option Pre
 IsFetchedAhead s p None = IsFetched s p
 IsFetchedAhead s p (Some prepared) = IsFetchedThen s p prepared
 
--- what was read last shows no whole trace, where trace p as it would be was to be shown, where something may be prepared or nothing
+-- what was read last shows no whole trace: trace p as it would be, where something may be prepared or nothing
 abbrev pub HasChangedAhead : {T : Type 0} → TraceStore T → ℕ → Option Prepared → Type 0
 HasChangedAhead s p None = HasChanged s p
 HasChangedAhead s p (Some prepared) = HasChangedThen s p prepared

@@ -10,5 +10,5 @@ refused_of e = record {
   fault = e.fault;
   read = joined e.logs.first.events;
   failures = length e.logs.failed.events;
-  ended = length e.logs.ended.events;
+  empty_reads = length e.logs.empty_reads.events;
 }

@@ -8,4 +8,4 @@ pub record RefusedPass : Type 0 where
   pub fault : LoadFault
   pub read : List ℕ
   pub failures : ℕ
-  pub ended : ℕ
+  pub empty_reads : ℕ

@@ -30,7 +30,7 @@ impl PassFault {
         ensures fault { result.fault ≡ fault }
         ensures read { result.read ≡ [] }
         ensures failures { result.failures ≡ 0 }
-        ensures ended { result.ended ≡ 0 }
+        ensures empty_reads { result.empty_reads ≡ 0 }
     {
         PassFault {
             fault,
@@ -45,7 +45,7 @@ impl PassFault {
         ensures fault { result.fault ≡ fault }
         ensures read { result.read ≡ held.bytes }
         ensures failures { result.failures ≡ held.failures }
-        ensures ended { result.ended ≡ held.ended }
+        ensures empty_reads { result.empty_reads ≡ held.empty_reads }
     {
         PassFault {
             fault,

@@ -9,7 +9,7 @@ use Rattle.std.specs.Ordering.{is_eq, int_cmp}
 use Rattle.key_counts.specs.Rising.{times_in}
 use Rattle.trace_record.specs.declared.amplitudes.Amplitudes.{Amplitudes}
 use Rattle.trace_record.specs.declared.record.Record.{Record}
-use Rattle.range_stats.specs.EndsCounted.{ends_in, AreEndsCounted, AreEndsMore, HasRoom}
+use Rattle.range_stats.specs.EndsCounted.{ends_in, AreEndsCounted, CountsOneEndMore, CanCountOneMore}
 
 -- a number occurs in two lists as often as in both together
 times-joined : (xs ys : List ℤ) (q : ℤ) → times_in int_cmp (xs ++ ys) q ≡ times_in int_cmp xs q + times_in int_cmp ys q
@@ -36,7 +36,7 @@ ends-few end (r ∷ rs) = by r.amplitudes (ends-few end rs)
 
 -- with the ends of one record more
 pub ends_counted-behind : (end : Amplitudes → ℤ) (old new : List (ℤ × ℕ)) (ys : List Record) (x : Record)
-    → AreEndsCounted end old ys → AreEndsMore end old new x → AreEndsCounted end new (ys ++ x ∷ [])
+    → AreEndsCounted end old ys → CountsOneEndMore end old new x → AreEndsCounted end new (ys ++ x ∷ [])
 ends_counted-behind end old new ys x h more q =
     more q ∙ ap (λ n. n + times_in int_cmp (ends_in end (x ∷ [])) q) (h q)
     ∙ sym (ap (λ (ks : List ℤ). times_in int_cmp ks q) (ends-joined end ys (x ∷ [])) ∙ times-joined (ends_in end ys) (ends_in end (x ∷ [])) q)
@@ -45,7 +45,7 @@ front_few : (ys zs all : List Record) → ys ++ zs ≡ all → length all ≤ 2 
 front_few ys zs all e h = let both = sym (length-append ys zs) ∙ ap length e in omega arith
 
 -- of so few records one more of each end can be counted
-pub ends_have_room : (end : Amplitudes → ℤ) (counts : List (ℤ × ℕ)) (ys zs all : List Record) → ys ++ zs ≡ all → AreEndsCounted end counts ys → length all ≤ 2 ^ 33 → HasRoom counts
+pub ends_have_room : (end : Amplitudes → ℤ) (counts : List (ℤ × ℕ)) (ys zs all : List Record) → ys ++ zs ≡ all → AreEndsCounted end counts ys → length all ≤ 2 ^ 33 → CanCountOneMore counts
 ends_have_room end counts ys zs all e h few q =
     let front = front_few ys zs all e few in
     let is = h q in

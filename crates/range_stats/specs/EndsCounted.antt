@@ -6,7 +6,7 @@ use Rattle.key_counts.specs.Rising.{times_in}
 use Rattle.trace_record.specs.declared.amplitudes.Amplitudes.{Amplitudes}
 use Rattle.trace_record.specs.declared.record.Record.{Record}
 
--- an end of the records whose samples have values
+-- the least sample, or the greatest, of each record whose samples have values
 abbrev pub ends_in : (Amplitudes → ℤ) → List Record → List ℤ
 ends_in end rs = map end (filter_map (λ r. r.amplitudes) rs)
 
@@ -15,9 +15,9 @@ abbrev pub AreEndsCounted : (Amplitudes → ℤ) → List (ℤ × ℕ) → List 
 AreEndsCounted end counts rs = (q : ℤ) → count_of int_cmp counts q ≡ times_in int_cmp (ends_in end rs) q
 
 -- the end of one record more is counted, where its samples have values
-abbrev pub AreEndsMore : (Amplitudes → ℤ) → List (ℤ × ℕ) → List (ℤ × ℕ) → Record → Type 0
-AreEndsMore end old new r = (q : ℤ) → count_of int_cmp new q ≡ count_of int_cmp old q + times_in int_cmp (ends_in end (r ∷ [])) q
+abbrev pub CountsOneEndMore : (Amplitudes → ℤ) → List (ℤ × ℕ) → List (ℤ × ℕ) → Record → Type 0
+CountsOneEndMore end old new r = (q : ℤ) → count_of int_cmp new q ≡ count_of int_cmp old q + times_in int_cmp (ends_in end (r ∷ [])) q
 
 -- one more of each number can be counted
-abbrev pub HasRoom : List (ℤ × ℕ) → Type 0
-HasRoom counts = (q : ℤ) → count_of int_cmp counts q + 1 < 2 ^ 64
+abbrev pub CanCountOneMore : List (ℤ × ℕ) → Type 0
+CanCountOneMore counts = (q : ℤ) → count_of int_cmp counts q + 1 < 2 ^ 64

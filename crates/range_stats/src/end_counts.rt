@@ -2,7 +2,7 @@ ghost use Rattle.std.specs.Prelude.{◌≡◌, ◌≤◌, ◌^◌, [], length, m
 ghost use Rattle.room.specs.Refusals.{Rises};
 ghost use Rattle.trace_record.specs.Facts.{facts_of};
 ghost use Rattle.trace_record.specs.Tally.{tally_of, IsSmall};
-ghost use Rattle.range_stats.specs.EndsCounted.{AreEndsCounted, AreEndsMore, HasRoom};
+ghost use Rattle.range_stats.specs.EndsCounted.{AreEndsCounted, CountsOneEndMore, CanCountOneMore};
 ghost use Rattle.range_stats.specs.TotalKeys.{keys_of_totals};
 
 use crate::key_lists::{EndKeys, end_keys};
@@ -119,11 +119,11 @@ fn raise_ends(
     greatest: &mut SampleCounts,
     trace: &Record,
 ) -> Result<(), OutOfMemory>
-    requires least { HasRoom least.old }
-    requires greatest { HasRoom greatest.old }
-    ensures least { OnOk result (AreEndsMore (λ a. a.least) least.old least.new trace.now) }
+    requires least { CanCountOneMore least.old }
+    requires greatest { CanCountOneMore greatest.old }
+    ensures least { OnOk result (CountsOneEndMore (λ a. a.least) least.old least.new trace.now) }
     ensures greatest { OnOk result
-        (AreEndsMore (λ a. a.greatest) greatest.old greatest.new trace.now) }
+        (CountsOneEndMore (λ a. a.greatest) greatest.old greatest.new trace.now) }
     ensures memory { Rises (IsErr result) room.old room.new }
 {
     if let Some(amplitudes) = trace.amplitudes {

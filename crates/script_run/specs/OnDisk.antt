@@ -20,6 +20,6 @@ read_whole = record { bytes = Some []; failures = 0 }
 -- the pass over a file of so many bytes was refused, by what it read, where a read failed, the file had fewer bytes or more, or for want of memory: the line of the
 -- refusal is written, or a part of it, and no line of the script is read
 pub record RefusesPass (size : ℕ) (options : Options) (script script_now answers answers_now : Device) (end : RunEnd) (refused : RefusedPass) : Type 0 where
-  pub reason : IsPassFault size options.reading options.limits refused.read refused.failures refused.ended refused.fault
+  pub reason : IsPassFault size options.reading options.limits refused.read refused.failures refused.empty_reads refused.fault
   pub told : IsTold answers answers_now (load_refusal_line refused.fault) (ends.Load refused.fault) end
   pub unread_is : script_now ≡ script

@@ -146,7 +146,7 @@ pub fn load_on_disk(
     ensures looks { IfOk result (λ bench. bench.looks ≤ load_looks bench.state.volume) }
     ensures refused { IfErr result (λ refused.
         IsPassFault size options.reading options.limits refused.read refused.failures
-        refused.ended refused.fault) }
+        refused.empty_reads refused.fault) }
     ensures memory { Rises (IsErrAnd result (λ e. e.fault ≡ LoadFault.OutOfMemory))
         room.old room.new }
 {

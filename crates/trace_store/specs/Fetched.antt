@@ -41,7 +41,7 @@ pub record HasChangedWith {T : Type 0} (s : TraceStore T) (p : ℕ) (laid : Opti
 abbrev pub HasChanged : {T : Type 0} → TraceStore T → ℕ → Type 0
 HasChanged s p = HasChangedWith s p None
 
--- what was read last shows no whole trace, where trace p as it would be with the edit that is prepared was to be shown
+-- what was read last shows no whole trace: trace p as it would be with the edit that is prepared
 abbrev pub HasChangedThen : {T : Type 0} → TraceStore T → ℕ → Prepared → Type 0
 HasChangedThen s p prepared = HasChangedWith s (place_then prepared p) (runs_then prepared p)
 

@@ -19,7 +19,7 @@ abbrev pub lent_base : HeldBytes → Base → List ℕ
 lent_base loaded (Loaded extent) = lent_of loaded extent.start extent.length
 lent_base loaded (Added bytes) = bytes.items
 
--- the bytes under a trace's runs are lent, as many as they are; and if the loaded bytes are sure, what is lent is what lies there
+-- the bytes under a trace's runs are lent, all of them; and if the loaded bytes are sure, what is lent is what lies there
 pub record IsAtHand (loaded : HeldBytes) (base : Base) : Type 0 where
   pub there : IsBaseThere loaded base
   pub size : length (lent_base loaded base) ≡ size_of base

@@ -25,4 +25,4 @@ IsFaultOfPass fault = (fault ≡ ReadFailed) ⊎ (fault ≡ OutOfMemory)
 
 -- a file that is said to have so many bytes was not read on: a read failed meanwhile; or one gave nothing, where it has fewer
 abbrev pub IsCutShort : (size : ℕ) (before now : HeldBytes) → Type 0
-IsCutShort size before now = (before.failures < now.failures) ⊎ ((before.ended < now.ended) × (length now.bytes < size))
+IsCutShort size before now = (before.failures < now.failures) ⊎ ((before.empty_reads < now.empty_reads) × (length now.bytes < size))

@@ -130,7 +130,8 @@ impl<T: Copy> TraceStore<T> {
         ensures failed { IsErr result → self.old.loaded.failures < self.new.loaded.failures }
         ensures unfailed { OnOk result
             (self.new.loaded.failures ≡ self.old.loaded.failures) }
-        ensures ended { self.new.loaded.ended ≡ self.old.loaded.ended }
+        ensures noted { IfOk result (λ end. IsTrue end → self.old.loaded.standing ≡ OnPass →
+            self.new.loaded.empty_reads ≡ self.old.loaded.empty_reads + 1) }
     {
         self.loaded.is_at_end()
     }
@@ -148,7 +149,7 @@ impl<T: Copy> TraceStore<T> {
         ensures bytes { result.loaded.bytes ≡ self.loaded.bytes }
         ensures standing { result.loaded.standing ≡ after_pass self.loaded.standing }
         ensures failures { result.loaded.failures ≡ self.loaded.failures }
-        ensures ended { result.loaded.ended ≡ self.loaded.ended }
+        ensures empty_reads { result.loaded.empty_reads ≡ self.loaded.empty_reads }
         ensures most { ¬ IsInMemory self.loaded.standing →
             result.loaded.most ≡ length room.items }
         ensures front { ¬ IsInMemory self.loaded.standing →

@@ -210,7 +210,7 @@ fn read_into(held: &mut Held, block: &mut [u8], at: usize, n: usize) -> Result<u
     ensures front { take at block.new ≡ take at block.old }
     ensures some { IfOk result (λ count. held.old.standing ≡ OnPass → 0 < n → 0 < count) }
     ensures refused { IsErr result → (held.old.failures < held.new.failures) ⊎
-        ((0 < n) × (held.old.ended < held.new.ended)) }
+        ((0 < n) × (held.old.empty_reads < held.new.empty_reads)) }
     ensures unfailed { OnOk result (held.new.failures ≡ held.old.failures) }
 {
     held.read_on(&mut block[at..at + n])

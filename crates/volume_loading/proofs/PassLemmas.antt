@@ -121,7 +121,7 @@ module _ {T : Type 0} where
   more_itself s = record { head = refl; loaded = grown_itself s.loaded; bases = refl; traces = refl; payloads = refl }
     where
       grown_itself : (l : HeldBytes) → HasGrown l l
-      grown_itself l = record { begins = take_all (length l.bytes) l.bytes (omega arith); standing = refl; room = refl; from = refl; most = refl; front = refl; back = refl; failures = omega arith; ended = omega arith }
+      grown_itself l = record { begins = take_all (length l.bytes) l.bytes (omega arith); standing = refl; room = refl; from = refl; most = refl; front = refl; back = refl; failures = omega arith; empty_reads = omega arith }
 
   pub more_again : (s t u : TraceStore T) → HasMore s t → HasMore t u → HasMore s u
   more_again s t u f g = record {
@@ -135,7 +135,7 @@ module _ {T : Type 0} where
       front = g.loaded.front ∙ f.loaded.front;
       back = g.loaded.back ∙ f.loaded.back;
       failures = omega (arith, f.loaded.failures, g.loaded.failures);
-      ended = omega (arith, f.loaded.ended, g.loaded.ended);
+      empty_reads = omega (arith, f.loaded.empty_reads, g.loaded.empty_reads);
     };
     bases = g.bases ∙ f.bases;
     traces = g.traces ∙ f.traces;

@@ -69,9 +69,9 @@ insert_last ts n t is =
 -- ---- what was not read
 
 -- a file that was cut short, for which the pass may give up
-pub may_give_up : (size : ℕ) (before now : HeldBytes) → IsCutShort size before now → MayGiveUp size now.bytes now.failures now.ended
+pub may_give_up : (size : ℕ) (before now : HeldBytes) → IsCutShort size before now → MayGiveUp size now.bytes now.failures now.empty_reads
 may_give_up size before now (inl failed) = inl (omega (arith, failed))
-may_give_up size before now (inr ended) = inr (inl (omega (arith, ended.0), ended.1))
+may_give_up size before now (inr empty_reads) = inr (inl (omega (arith, empty_reads.0), empty_reads.1))
 
 -- a window that was not filled
 pub hold_fault : (size : ℕ) (before now : HeldBytes) (n w : ℕ) (fault : LoadFault) → IsFaultOfPass fault → (fault ≡ ReadFailed → before.standing ≡ OnPass → n ≤ w + (size - length before.bytes) → IsCutShort size before now)
@@ -81,7 +81,7 @@ hold_fault size before now n w fault (inl failed) told standing fits =
 hold_fault size before now n w fault (inr memory) told standing fits = inr memory
 
 -- the pass over a file gives up
-pub given_up : (held : HeldBytes) (size : ℕ) (fault : LoadFault) → held.standing ≡ OnPass → IsFaultOfHold size held fault → IsGivenUp size held.bytes held.failures held.ended fault
+pub given_up : (held : HeldBytes) (size : ℕ) (fault : LoadFault) → held.standing ≡ OnPass → IsFaultOfHold size held fault → IsGivenUp size held.bytes held.failures held.empty_reads fault
 given_up held size fault pass (inl failed) = inl (failed.0, failed.1 pass)
 given_up held size fault pass (inr memory) = inr memory
 
@@ -103,7 +103,7 @@ last_fits ts us t n same fits each = rw same (All-append (λ (x : List ℕ). len
 
 -- ---- the head
 
-pub head_fault : (held : HeldBytes) (size : ℕ) (reading : Reading) (limits : Limits) (fault : LoadFault) → held.standing ≡ OnPass → length held.bytes ≤ size → IsFaultOfHold size held fault ⊎ IsHeadFault held.bytes size reading limits fault → IsPassFault size reading limits held.bytes held.failures held.ended fault
+pub head_fault : (held : HeldBytes) (size : ℕ) (reading : Reading) (limits : Limits) (fault : LoadFault) → held.standing ≡ OnPass → length held.bytes ≤ size → IsFaultOfHold size held fault ⊎ IsHeadFault held.bytes size reading limits fault → IsPassFault size reading limits held.bytes held.failures held.empty_reads fault
 head_fault held size reading limits fault pass within (inl given) = inl (given_up held size fault pass given)
 head_fault held size reading limits fault pass within (inr told) = inr (within, λ file begun. inl (told file begun))
 
@@ -142,7 +142,7 @@ module _ {T : Type 0} where
     long = passing.long ∙ ap (λ (h : Head). h.traces_at) (sym more.head);
     shown = short;
     fits = omega (arith, fits, ap (λ (h : Head). h.trailer) more.head);
-    ended = λ some. absurd (omega (arith, some));
+    empty_reads = λ some. absurd (omega (arith, some));
     kept = λ some. absurd (omega (arith, some));
     trace = λ some file begun. length_kept file p.limits p.store s p.at n more.head more.traces (told some file begun);
   }
@@ -166,7 +166,7 @@ module _ {T : Type 0} where
     long = passing.long ∙ ap (λ (h : Head). h.traces_at) (sym more.head);
     shown = omega arith;
     fits = omega (arith, passing.room, ap (λ (h : Head). h.trailer) more.head);
-    ended = λ _. (refl, omega (arith, all, ap (λ (h : Head). h.trailer) more.head));
+    empty_reads = λ _. (refl, omega (arith, all, ap (λ (h : Head). h.trailer) more.head));
     kept = λ _ file begun. tail_kept file p.reading p.store s p.at more.head (told file begun);
     trace = λ some. absurd (omega (arith, some));
   }
@@ -177,7 +177,7 @@ module _ {T : Type 0} where
   number_of file s es is = ap length is ∙ length-map es (bytes_at file)
 
   pub trace_fault : (p : Inside T) (s : TraceStore T) (fault : LoadFault) → IsPassing p → HasMore p.store s → length s.loaded.bytes ≤ p.size → p.at + 3200 * p.store.head.trailer < p.size
-      → IsFaultOfHold p.size s.loaded fault ⊎ IsTraceFault s.loaded.bytes p.size p.reading p.store.head p.limits (length (traces_of p.store) + 1) p.at fault → IsPassFault p.size p.reading p.limits s.loaded.bytes s.loaded.failures s.loaded.ended fault
+      → IsFaultOfHold p.size s.loaded fault ⊎ IsTraceFault s.loaded.bytes p.size p.reading p.store.head p.limits (length (traces_of p.store) + 1) p.at fault → IsPassFault p.size p.reading p.limits s.loaded.bytes s.loaded.failures s.loaded.empty_reads fault
   trace_fault p s fault passing more within some (inl given) = inl (given_up s.loaded p.size fault (more.loaded.standing ∙ passing.standing) given)
   trace_fault p s fault passing more within some (inr told) = inr (
     within,
@@ -250,8 +250,8 @@ module _ {T : Type 0} where
         long = passing.long ∙ ap (λ (h : Head). h.traces_at) (sym head);
         shown = omega arith;
         fits = omega (arith, passing.fits, ap (λ (h : Head). h.trailer) head);
-        ended = λ tail. absurd (omega (arith, some, (passing.ended tail).0));
-        kept = λ tail. absurd (omega (arith, some, (passing.ended tail).0));
+        empty_reads = λ tail. absurd (omega (arith, some, (passing.empty_reads tail).0));
+        kept = λ tail. absurd (omega (arith, some, (passing.empty_reads tail).0));
         trace = λ none. absurd (omega (arith, none));
       }
 
@@ -281,7 +281,7 @@ module _ {T : Type 0} where
         long = long ∙ sym place;
         shown = omega (arith, zero_next);
         fits = omega (arith, room.0, trailer, at, zero_next);
-        ended = λ some. absurd (omega (arith, some, zero_tail));
+        empty_reads = λ some. absurd (omega (arith, some, zero_tail));
         kept = λ some. absurd (omega (arith, some, zero_tail));
         trace = λ some. absurd (omega (arith, some, zero_next));
       }

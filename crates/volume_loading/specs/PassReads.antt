@@ -16,7 +16,7 @@ use Rattle.volume_loading.specs.PassedFile.{MayGiveUp}
 -- the bytes that follow were not read for this reason: memory was refused; or a read, where the pass may give up, of a file
 -- that is being passed
 abbrev pub IsFaultOfHold : (size : ℕ) → HeldBytes → LoadFault → Type 0
-IsFaultOfHold size held fault = ((fault ≡ ReadFailed) × (held.standing ≡ OnPass → MayGiveUp size held.bytes held.failures held.ended)) ⊎ (fault ≡ OutOfMemory)
+IsFaultOfHold size held fault = ((fault ≡ ReadFailed) × (held.standing ≡ OnPass → MayGiveUp size held.bytes held.failures held.empty_reads)) ⊎ (fault ≡ OutOfMemory)
 
 -- its head
 abbrev pub IsHeadOf : List ℕ → ℕ → Reading → Limits → Head → Type 0

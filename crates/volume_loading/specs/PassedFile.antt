@@ -29,13 +29,13 @@ pub record PassedFile (T : Type 0) : Type 0 where
   pub tail : ℕ
   pub looks : ℕ
   pub failures : ℕ
-  pub ended : ℕ
+  pub empty_reads : ℕ
 
 module _ {T : Type 0} where
   -- the same where these bytes were read and this trace is shown, or so many bytes of no trace stand there, after so many looks,
   -- so many failed reads, and so many that gave nothing
-  abbrev pub with_shown : PassedFile T → List ℕ → List ℕ → (tail looks failures ended : ℕ) → PassedFile T
-  with_shown p read shown tail looks failures ended = record p { read = read; shown = shown; tail = tail; looks = looks; failures = failures; ended = ended }
+  abbrev pub with_shown : PassedFile T → List ℕ → List ℕ → (tail looks failures empty_reads : ℕ) → PassedFile T
+  with_shown p read shown tail looks failures empty_reads = record p { read = read; shown = shown; tail = tail; looks = looks; failures = failures; empty_reads = empty_reads }
 
   -- the same with the trace that is shown behind the others, with this payload
   abbrev pub with_passed : PassedFile T → T → PassedFile T
@@ -91,14 +91,14 @@ IsRefusedBy size reading limits read fault =
 
 -- a pass over a file that is said to have so many bytes may give up, where these were read: a read failed; or one gave nothing
 -- where some bytes were to come, and the file has fewer; or there are more
-abbrev pub MayGiveUp : (size : ℕ) (read : List ℕ) (failures ended : ℕ) → Type 0
-MayGiveUp size read failures ended = (0 < failures) ⊎ ((0 < ended) × (length read < size)) ⊎ (size < length read)
+abbrev pub MayGiveUp : (size : ℕ) (read : List ℕ) (failures empty_reads : ℕ) → Type 0
+MayGiveUp size read failures empty_reads = (0 < failures) ⊎ ((0 < empty_reads) × (length read < size)) ⊎ (size < length read)
 
 -- it gives up for this reason: for a read, where it may, or memory was refused
-abbrev pub IsGivenUp : (size : ℕ) (read : List ℕ) (failures ended : ℕ) → LoadFault → Type 0
-IsGivenUp size read failures ended fault = ((fault ≡ ReadFailed) × MayGiveUp size read failures ended) ⊎ (fault ≡ OutOfMemory)
+abbrev pub IsGivenUp : (size : ℕ) (read : List ℕ) (failures empty_reads : ℕ) → LoadFault → Type 0
+IsGivenUp size read failures empty_reads fault = ((fault ≡ ReadFailed) × MayGiveUp size read failures empty_reads) ⊎ (fault ≡ OutOfMemory)
 
 -- a pass that has read these bytes, where so many reads failed and so many gave nothing, is refused for this reason: it gives up,
 -- or the bytes refuse the file
-abbrev pub IsPassFault : (size : ℕ) → Reading → Limits → (read : List ℕ) (failures ended : ℕ) → LoadFault → Type 0
-IsPassFault size reading limits read failures ended fault = IsGivenUp size read failures ended fault ⊎ IsRefusedBy size reading limits read fault
+abbrev pub IsPassFault : (size : ℕ) → Reading → Limits → (read : List ℕ) (failures empty_reads : ℕ) → LoadFault → Type 0
+IsPassFault size reading limits read failures empty_reads fault = IsGivenUp size read failures empty_reads fault ⊎ IsRefusedBy size reading limits read fault

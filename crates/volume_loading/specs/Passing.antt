@@ -33,7 +33,7 @@ passed_of p = record {
   tail = p.tail;
   looks = p.looks;
   failures = p.store.loaded.failures;
-  ended = p.store.loaded.ended;
+  empty_reads = p.store.loaded.empty_reads;
 }
 
 -- the store has this head of the file, and its traces up to a place
@@ -58,7 +58,7 @@ pub record IsPassing {T : Type 0} (p : Inside T) : Type 0 where
   pub shown : p.next ≤ length p.window.bytes
   pub fits : p.at + p.next + TEXT_BLOCK_BYTES * p.store.head.trailer ≤ p.size
   -- where bytes of no trace stand behind the last one, nothing is shown, and they are less than a trace, which the reading keeps
-  pub ended : 0 < p.tail → (p.next ≡ 0) × (p.at + p.tail + TEXT_BLOCK_BYTES * p.store.head.trailer ≡ p.size)
+  pub empty_reads : 0 < p.tail → (p.next ≡ 0) × (p.at + p.tail + TEXT_BLOCK_BYTES * p.store.head.trailer ≡ p.size)
   pub kept : 0 < p.tail → (file : List ℕ) → BeginsWith p.store.loaded.bytes p.size file → IsTail p.reading p.store.head (left_at file p.store.head p.at)
   pub trace : 0 < p.next → (file : List ℕ) → BeginsWith p.store.loaded.bytes p.size file
       → HasLengthAt file p.store.head p.limits (length (traces_of p.store) + 1) p.at p.next

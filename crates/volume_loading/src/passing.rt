@@ -69,7 +69,7 @@ impl<T: Copy> Passing<T> {
         ensures begun { IfOk result (IsBegun size reading limits) }
         ensures unfailed { IfOk result (λ p. p.failures ≡ 0) }
         ensures refused { IfErr result
-            (λ e. IsPassFault size reading limits e.read e.failures e.ended e.fault) }
+            (λ e. IsPassFault size reading limits e.read e.failures e.empty_reads e.fault) }
         ensures memory { Rises (IsErrAnd result (λ e. e.fault ≡ LoadFault.OutOfMemory)) room.old
             room.new }
     {
@@ -112,7 +112,7 @@ impl<T: Copy> Passing<T> {
     /// none is shown then.
     pub fn next_trace(&mut self, room: &mut Room) -> Result<bool, LoadFault>
         ensures same { self.new ≡ with_shown self.old self.new.read self.new.shown self.new.tail
-            self.new.looks self.new.failures self.new.ended }
+            self.new.looks self.new.failures self.new.empty_reads }
         ensures on { HasReadOn self.old.read self.new.read }
         ensures trace { IfOk result (λ more. IsTrue more → IsTrace self.new.head self.new.shown) }
         ensures inside { IfOk result (λ more. IsTrue more → HasShownInside self.new) }
@@ -122,11 +122,11 @@ impl<T: Copy> Passing<T> {
         ensures unseen { IfOk result (λ more. IsFalse more → self.new.looks ≡ self.old.looks) }
         ensures refused { IfErr result
             (IsPassFault self.old.size self.old.reading self.old.limits self.new.read
-            self.new.failures self.new.ended) }
+            self.new.failures self.new.empty_reads) }
         ensures failed { OnErr result (self.new.looks ≡ self.old.looks) }
         ensures failures { self.old.failures ≤ self.new.failures }
         ensures unfailed { OnOk result (self.new.failures ≡ self.old.failures) }
-        ensures ended { self.old.ended ≤ self.new.ended }
+        ensures empty_reads { self.old.empty_reads ≤ self.new.empty_reads }
         ensures memory { Rises (IsErrOf result LoadFault.OutOfMemory) room.old room.new }
     {
         self.next = 0;
@@ -200,7 +200,7 @@ impl<T: Copy> Passing<T> {
         ensures fault { result.fault ≡ fault }
         ensures read { result.read ≡ self.read }
         ensures failures { result.failures ≡ self.failures }
-        ensures ended { result.ended ≡ self.ended }
+        ensures empty_reads { result.empty_reads ≡ self.empty_reads }
     {
         PassFault::of(fault, self.store.loaded)
     }
@@ -217,7 +217,7 @@ impl<T: Copy> Passing<T> {
         ensures passed { IfOk result (IsPassed self) }
         ensures unfailed { IfOk result (λ o. o.reads.failures ≡ self.failures) }
         ensures refused { IfErr result
-            (λ e. IsGivenUp self.size e.read e.failures e.ended e.fault) }
+            (λ e. IsGivenUp self.size e.read e.failures e.empty_reads e.fault) }
         ensures read { IfErr result (λ e. HasReadOn self.read e.read) }
         ensures memory { Rises (IsErrAnd result (λ e. e.fault ≡ LoadFault.OutOfMemory)) room.old
             room.new }

@@ -52,7 +52,7 @@ pub fn with_records_on_disk(
     ensures on { IfOk result (λ r. HasReadOn passing.read r.0.loaded.bytes) }
     ensures refused { IfErr result
         (λ e. IsPassFault passing.size passing.reading passing.limits e.read e.failures
-        e.ended e.fault) }
+        e.empty_reads e.fault) }
     ensures read { IfErr result (λ e. HasReadOn passing.read e.read) }
     ensures memory { Rises (IsErrAnd result (λ e. e.fault ≡
         LoadFault.OutOfMemory)) room.old room.new }
@@ -92,7 +92,7 @@ fn pass_records(
         (RisesAtMost passing.old.looks passing.new.looks (length passing.new.traces)) }
     ensures refused { IfErr result
         (IsPassFault passing.old.size passing.old.reading passing.old.limits passing.new.read
-        passing.new.failures passing.new.ended) }
+        passing.new.failures passing.new.empty_reads) }
     ensures memory { Rises (IsErrOf result LoadFault.OutOfMemory) room.old room.new }
 {
     'turns: loop {

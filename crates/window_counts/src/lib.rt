@@ -1,7 +1,8 @@
 //! How often keys were counted that lie densely, as those of a survey do. `WindowCounts` has one
 //! number for each place of a window, and counts in order for the keys outside it; a key in the
 //! window is raised, lowered and read by one access. A `Window` is an `Interval` of whole numbers,
-//! a `Rectangle` of inlines and crosslines, or an `OffsetRectangle` of them, each at one offset.
+//! a `WideInterval` of such among numbers of 128 bits, a `Rectangle` of inlines and crosslines, or
+//! an `OffsetRectangle` of them, each at one offset.
 //!
 //! A key above all of a rectangle may get a row of places behind the others, so that a survey that
 //! is renumbered upwards, line by line, is counted in places too: at most as many rows as there

@@ -31,15 +31,15 @@ invariant_of-result c =
     }
 
 -- the file is refused as the load was asked
-refused_so : (size asked : ℕ) (how reading : Reading) (within limits : Limits) (read : List ℕ) (failures ended : ℕ) (fault : LoadFault) → size ≡ asked → how ≡ reading → within ≡ limits
-    → IsPassFault size how within read failures ended fault → IsPassFault asked reading limits read failures ended fault
-refused_so size asked how reading within limits read failures ended fault e f g told =
-    subst (λ (n : ℕ). IsPassFault n reading limits read failures ended fault) e
-    (subst (λ (r : Reading). IsPassFault size r limits read failures ended fault) f (subst (λ (l : Limits). IsPassFault size how l read failures ended fault) g told))
+refused_so : (size asked : ℕ) (how reading : Reading) (within limits : Limits) (read : List ℕ) (failures empty_reads : ℕ) (fault : LoadFault) → size ≡ asked → how ≡ reading → within ≡ limits
+    → IsPassFault size how within read failures empty_reads fault → IsPassFault asked reading limits read failures empty_reads fault
+refused_so size asked how reading within limits read failures empty_reads fault e f g told =
+    subst (λ (n : ℕ). IsPassFault n reading limits read failures empty_reads fault) e
+    (subst (λ (r : Reading). IsPassFault size r limits read failures empty_reads fault) f (subst (λ (l : Limits). IsPassFault size how l read failures empty_reads fault) g told))
 
 pub returns-in-Err-with_records_on_disk-clause-refused : goal.returns-in-Err-with_records_on_disk-clause-refused
 returns-in-Err-with_records_on_disk-clause-refused c =
     let p = c.in_ok-passing.passing in
     let begun = c.in_ok-passing.ensures.begun in
     let e = c.in-Err-with_records_on_disk.refused in
-    refused_so p.size c.args.size p.reading c.args.reading p.limits c.args.limits e.read e.failures e.ended e.fault begun.size begun.reading begun.limits c.in-Err-with_records_on_disk.ensures.refused
+    refused_so p.size c.args.size p.reading c.args.reading p.limits c.args.limits e.read e.failures e.empty_reads e.fault begun.size begun.reading begun.limits c.in-Err-with_records_on_disk.ensures.refused

@@ -7,7 +7,7 @@ use Rattle.volume_loading.proofs.passing.Passing.begin.Goals as goal
 pub returns-in-Err-clause-refused : goal.returns-in-Err-clause-refused
 returns-in-Err-clause-refused g c =
     let pass = c.read_head.ensures.grown.standing ∙ c.on_pass-held.ensures.standing in
-    rw (c.of.ensures.read, c.of.ensures.failures, c.of.ensures.ended, c.of.ensures.fault) (head_fault c.read_head.new.held c.args.size c.args.reading c.args.limits c.in-Err.fault pass c.read_head.ensures.within c.in-Err.ensures.refused)
+    rw (c.of.ensures.read, c.of.ensures.failures, c.of.ensures.empty_reads, c.of.ensures.fault) (head_fault c.read_head.new.held c.args.size c.args.reading c.args.limits c.in-Err.fault pass c.read_head.ensures.within c.in-Err.ensures.refused)
 
 pub returns-in-Err-read_front-clause-refused : goal.returns-in-Err-read_front-clause-refused
 returns-in-Err-read_front-clause-refused g c =
@@ -15,7 +15,7 @@ returns-in-Err-read_front-clause-refused g c =
     let pass = c.read_front.ensures.grown.standing ∙ (c.read_head.ensures.grown.standing ∙ c.on_pass-held.ensures.standing) in
     let room = head_room c.read_head.new.held.bytes c.args.size c.args.reading c.args.limits c.in-Ok.head c.read_head.ensures.within c.in-Ok.ensures.head in
     let of = c.of-in-Err-read_front.ensures in
-    rw (of.read, of.failures, of.ended, of.fault) (inl (given_up held c.args.size c.in-Err-read_front.fault pass (c.in-Err-read_front.ensures.fault (omega (arith, room.0)))))
+    rw (of.read, of.failures, of.empty_reads, of.fault) (inl (given_up held c.args.size c.in-Err-read_front.fault pass (c.in-Err-read_front.ensures.fault (omega (arith, room.0)))))
 
 pub invariant_of-result : goal.invariant_of-result
 invariant_of-result g c =

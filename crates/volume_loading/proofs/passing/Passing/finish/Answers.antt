@@ -16,7 +16,7 @@ returns-in-Err-clause-refused g c =
     let pass = c.skip_bytes.ensures.grown.loaded.standing ∙ c.self.invariant.standing in
     let end : p.at + p.tail + 3200 * p.store.head.trailer ≡ p.size = rw (← c.self.view_is) at c.requires in
     let fault = c.in-Err.ensures.fault p.at c.self.invariant.next (omega (arith, end)) in
-    rw (← c.self.view_is, c.of.ensures.read, c.of.ensures.failures, c.of.ensures.ended, c.of.ensures.fault) (given_up held p.size c.in-Err.fault pass fault)
+    rw (← c.self.view_is, c.of.ensures.read, c.of.ensures.failures, c.of.ensures.empty_reads, c.of.ensures.fault) (given_up held p.size c.in-Err.fault pass fault)
 
 pub array_at-text-requires : goal.array_at-text-requires
 array_at-text-requires g c = (omega arith, omega (arith, headers_there c.self.inside c.self.invariant, ap length c.as_slice.ensures.value))
